@@ -1,0 +1,10 @@
+pub mod Xor
+pub mod Steps
+pub mod Table
+pub mod Turn
+pub mod Binary
+pub mod Whole
+pub mod Line
+pub mod Bursts
+pub mod Frame
+pub mod Cases
