@@ -1,0 +1,20 @@
+//! The tests: one module a theme, all over a `Rig`.
+
+mod bench_lines;
+mod blocks;
+mod calculations;
+mod cases;
+mod clock;
+mod control;
+mod demands;
+mod history;
+mod kept;
+mod order;
+mod outcomes;
+mod programs;
+mod rig;
+mod scans;
+mod slips;
+mod status;
+mod stretches;
+mod tables;
