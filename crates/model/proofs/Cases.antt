@@ -1,0 +1,263 @@
+-- Cases 1 to 12 of document 01's bench cases: one table, and one statement that the definitions make of each what the table tells.
+-- Assumes nothing.
+use mathlib.Core.Path.{_≡_, refl}
+use Prim.Native.Nat.{ℕ, zero, suc, _+_, _*_, _-_, _/_, _%_}
+use mathlib.Core.List.{List, [], _∷_, _++_}
+use mathlib.Core.Bool.{Bool, true, false, cond}
+use lib.ListN.{length, getD, take, set, replicate}
+use Rattle.chars.specs.Put.{put, part}
+use Rattle.chars.specs.Word.{word, value, wordAt}
+use Rattle.chars.specs.Gather.{gather, upFrom}
+use Rattle.checkword.specs.Check.{bitStep, bitSteps, charStep, checkFrom, checkOf}
+use Rattle.model.specs.Frame.{
+  Request,
+  unitOf,
+  masterOf,
+  whole,
+  checked,
+  frameIn,
+  heardOf,
+  requestIn,
+  withCheck,
+  frameChars,
+  headChars,
+  replyChars,
+}
+use Rattle.model.specs.Outcome.{damaged, replyFunction, answerNumber}
+use Rattle.model.specs.Config.{
+  Config,
+  has,
+  within,
+  twoBit,
+  simple,
+  accumulator,
+  analog,
+  every,
+  noneIn,
+  fileValid,
+  validOf,
+  hasFile,
+  hasCalculation,
+  sizeOf,
+}
+use Rattle.model.specs.State.{
+  Areas,
+  History,
+  Inner,
+  State,
+  heldIn,
+  storeIn,
+  releaseIn,
+  freshCore,
+  freshAreas,
+  freshHistory,
+  freshPort,
+  freshOf,
+}
+use Rattle.model.specs.Scan.{counts, withNoData}
+use Rattle.model.specs.Inputs.{unreserved, chosen, wordOf, inputsOf, hasAccumulator, pulsesOf}
+use Rattle.model.specs.Control.{isOf, takes, selectWhen, operateWhen, selectOf, controlOf, operates, breaks, heldAfter}
+use Rattle.model.specs.Blocks.{notExecuted, executeWhen, executeOf, dropped, waitsAfter}
+use Rattle.model.specs.Clock.{bcd, fromBcd, digits, clockFits, timeIn, digitsFit, setTimeOf, timeOf, clockAt, clockAfter}
+use Rattle.model.specs.History.{
+  acknowledges,
+  dumps,
+  fileOf,
+  flat,
+  historyChars,
+  releaseFor,
+  mostOf,
+  toldFrom,
+  historyOf,
+  recordChars,
+  storedAs,
+}
+use Rattle.model.specs.Fits.{
+  masterFits,
+  holdFits,
+  writeFits,
+  coreFits,
+  givable,
+  replyFits,
+  memoryFits,
+  fileFits,
+  historyFits,
+  areasFit,
+  portFits,
+  fits,
+}
+use Rattle.model.specs.Step.{
+  Event,
+  stretch,
+  elapsed,
+  pulses,
+  store,
+  controlled,
+  timed,
+  executed,
+  scanned,
+  internalOf,
+  otherOf,
+  statusOf,
+  sentAs,
+  answered,
+  quiet,
+  settled,
+  finished,
+  beside,
+  historyMade,
+  initialises,
+  served,
+  framed,
+  judged,
+  coreAfter,
+  elapsedMade,
+  localMade,
+  wordMade,
+  storeMade,
+  makeOf,
+}
+use Rattle.model.specs.Port.{portStatus, sentChars, damageMark, markAfter, silentAfter, portAfter}
+use Rattle.model.specs.Run.{short, turnedAway, shows, moves, Result, resultOf, nextOf, afterFrom, after}
+use Rattle.model.specs.Bench.{benchConfig}
+use Rattle.model.specs.declared.Action.{Action}
+use Rattle.model.specs.declared.Action.the-variants.{Rest, Operate}
+
+-- ---- the units and events of the cases
+
+-- the bench unit, with output 1 and file 0 of so many values
+unfoldable pub wider : ℕ → Config
+wider v =
+    record {
+      unit = benchConfig .unit;
+      inputs = benchConfig .inputs;
+      outputs = set (replicate 256 0) 1 1;
+      calculations = replicate 256 0;
+      files = set (replicate 32 0) 0 1;
+      values = set (replicate 32 0) 0 v;
+      block = 0;
+    }
+
+-- a good frame of master 1 to unit 1234, and a buffer that is long enough
+unfoldable pub frame : ℕ → ℕ → List ℕ → List ℕ
+frame f c ys = frameChars (record { address = 0x0CD2; function = f; command = c; body = ys })
+
+unfoldable pub asks : ℕ → ℕ → List ℕ → Event
+asks f c ys = stretch 520 (frame f c ys)
+
+unfoldable pub scan : Event
+scan = asks 0x00 0x41 []
+
+-- that frame with one bit changed
+unfoldable pub damage : Event
+damage = stretch 520 (0xD2 ∷ 0x0C ∷ 0x00 ∷ 0x41 ∷ 0x00 ∷ 0x00 ∷ 0x53 ∷ 0x67 ∷ [])
+
+unfoldable pub times : ℕ → Event → List Event
+times zero e = []
+times (suc n) e = e ∷ times n e
+
+unfoldable pub record16 : Event
+record16 = store (record { 0 = 0 }) 7 (replicate 16 258)
+
+unfoldable pub setDay : ℕ → ℕ → Event
+setDay hundreds rest = asks 0x20 0x38 (hundreds ∷ rest ∷ 0x23 ∷ 0x59 ∷ 0x59 ∷ 0x03 ∷ 0xE7 ∷ [])
+
+-- ---- what they show
+
+unfoldable pub acted : Action → List ℕ
+acted Rest = []
+acted (Operate o close) = o .0 ∷ cond close 1 0 ∷ []
+
+-- the number that the event e is answered with after the events es, and the output action
+unfoldable pub outcomeOf : Config → List Event → Event → List ℕ
+outcomeOf c es e = answerNumber (resultOf c (after c es) e .answer) ∷ acted (resultOf c (after c es) e .action)
+
+unfoldable pub replyOf : Config → List Event → Event → List ℕ
+replyOf c es e = resultOf c (after c es) e .reply
+
+pub record Case : Type 0 where
+  pub number : ℕ
+  pub made : List ℕ
+  pub told : List ℕ
+
+unfoldable pub checkCase : ℕ → List ℕ → List ℕ → Case
+checkCase n s ys = record { number = n; made = word (checkOf s); told = ys }
+
+unfoldable pub table : List Case
+table =
+    checkCase 1 (0xD2 ∷ 0x0C ∷ 0x00 ∷ 0x41 ∷ 0x00 ∷ 0x00 ∷ []) (0x52 ∷ 0x67 ∷ [])
+    ∷ checkCase 2 (0xD2 ∷ 0x04 ∷ 0x00 ∷ 0x49 ∷ 0x00 ∷ 0x00 ∷ []) (0x32 ∷ 0x64 ∷ [])
+    ∷ checkCase 3 (0x01 ∷ 0x00 ∷ 0x00 ∷ 0x49 ∷ 0x00 ∷ 0x00 ∷ []) (0xD0 ∷ 0x07 ∷ [])
+    ∷ record { number = 4; made = masterOf (wordAt (0xD2 ∷ 0x0C ∷ []) 0) .0 ∷ unitOf (wordAt (0xD2 ∷ 0x0C ∷ []) 0) ∷ []; told = 1 ∷ 1234 ∷ [] }
+    ∷ record {
+      number = 5;
+      made = getD (replyOf benchConfig [] scan) 4 0 ∷ getD (replyOf benchConfig (damage ∷ []) scan) 4 0 ∷ [];
+      told = 0x54 ∷ 0x56 ∷ [];
+    }
+    -- 20h/31h with 128 characters is a frame, which no write waits for; with 129 it is none
+    ∷ record {
+      number = 6;
+      made =
+          length (frame 0x20 0x31 (replicate 128 0)) ∷ (outcomeOf benchConfig [] (asks 0x20 0x31 (replicate 128 0))
+          ++ (length (frame 0x20 0x31 (replicate 129 0)) ∷ outcomeOf benchConfig [] (asks 0x20 0x31 (replicate 129 0))));
+      told = 136 ∷ 14 ∷ 137 ∷ 1 ∷ [];
+    }
+    ∷ record {
+      number = 7;
+      made = outcomeOf (wider 1) (asks 0x10 0x11 (1 ∷ []) ∷ elapsed 5000 ∷ []) (asks 0x10 0x20 []);
+      told = 0 ∷ 1 ∷ 1 ∷ [];
+    }
+    ∷ record { number = 8; made = outcomeOf (wider 1) (asks 0x10 0x11 (1 ∷ []) ∷ elapsed 5001 ∷ []) (asks 0x10 0x20 []); told = 11 ∷ [] }
+    ∷ record {
+      number = 9;
+      made =
+          getD (after benchConfig (pulses (record { 0 = 0x40 }) 65535 ∷ []) .inner .areas .words) 0x40 0
+          ∷ getD (after benchConfig (pulses (record { 0 = 0x40 }) 65535 ∷ pulses (record { 0 = 0x40 }) 1 ∷ []) .inner .areas .words) 0x40 0
+          ∷ [];
+      told = 65535 ∷ 0 ∷ [];
+    }
+    -- 1 + 13 * 38 characters of data, the first of them 13 with bit 7
+    ∷ record {
+      number = 10;
+      made =
+          length (heldIn (after (wider 16) (times 32 record16) .inner .history .files) 0)
+          ∷ wordAt (replyOf (wider 16) (times 32 record16) (asks 0x04 0x60 [])) 5
+          ∷ getD (replyOf (wider 16) (times 32 record16) (asks 0x04 0x60 [])) 7 0
+          ∷ [];
+      told = 32 ∷ 495 ∷ 0x8D ∷ [];
+    }
+    ∷ record { number = 11; made = outcomeOf benchConfig [] (setDay 3 0x66) ++ outcomeOf benchConfig [] (setDay 3 0x67); told = 0 ∷ 8 ∷ [] }
+    ∷ record {
+      number = 12;
+      made =
+          outcomeOf (wider 16) (times 31 record16) record16 ++ (outcomeOf (wider 16) (times 32 record16) record16
+          ++ (length (heldIn (after (wider 16) (times 33 record16) .inner .history .files) 0) ∷ []));
+      told = 0 ∷ 1 ∷ 32 ∷ [];
+    }
+    ∷ []
+
+unfoldable pub eachMade : List Case → List (List ℕ)
+eachMade [] = []
+eachMade (x ∷ xs) = x .made ∷ eachMade xs
+
+unfoldable pub eachTold : List Case → List (List ℕ)
+eachTold [] = []
+eachTold (x ∷ xs) = x .told ∷ eachTold xs
+
+pub cases : eachMade table ≡ eachTold table
+unfolding
+    table checkCase eachMade eachTold wider asks scan damage times record16 setDay acted outcomeOf replyOf frame benchConfig
+    put part word value wordAt gather upFrom bitStep bitSteps charStep checkFrom
+    unitOf masterOf whole checked frameIn heardOf requestIn withCheck frameChars headChars replyChars
+    damaged replyFunction has within twoBit simple accumulator analog every noneIn fileValid validOf hasFile hasCalculation sizeOf
+    heldIn storeIn releaseIn freshCore freshAreas freshHistory freshPort freshOf counts withNoData
+    unreserved chosen wordOf inputsOf hasAccumulator pulsesOf
+    isOf takes selectWhen operateWhen selectOf controlOf operates breaks heldAfter
+    notExecuted executeWhen executeOf dropped waitsAfter
+    bcd fromBcd digits clockFits timeIn digitsFit setTimeOf timeOf clockAt clockAfter
+    acknowledges dumps fileOf flat historyChars releaseFor mostOf toldFrom historyOf recordChars storedAs
+    masterFits holdFits writeFits coreFits givable replyFits memoryFits fileFits historyFits areasFit portFits fits
+    controlled timed executed scanned internalOf otherOf statusOf sentAs answered quiet settled finished beside historyMade initialises
+    served framed judged coreAfter elapsedMade localMade wordMade storeMade makeOf
+    portStatus sentChars damageMark markAfter silentAfter portAfter short turnedAway shows moves resultOf nextOf afterFrom
+cases = refl

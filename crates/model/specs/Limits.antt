@@ -1,0 +1,44 @@
+-- The figures that limit things, each once; Tied and src/lib.rt hold them to the constants of the thing they limit (Frames 19).
+use Prim.Native.Nat.{ℕ, _+_, _*_}
+
+-- a master's frame has 8 to 136 characters (Frames 2)
+abbrev pub shortestFrame : ℕ
+shortestFrame = 8
+
+abbrev pub longestFrame : ℕ
+longestFrame = 136
+
+-- a frame has at most 128 characters of data (Frames 1)
+abbrev pub mostAsked : ℕ
+mostAsked = 128
+
+-- a reply has a head of 7, up to 511 of data, and 9 to 520 characters (Frames 3, 4)
+abbrev pub replyHead : ℕ
+replyHead = 7
+
+abbrev pub mostData : ℕ
+mostData = 511
+
+abbrev pub longestReply : ℕ
+longestReply = 520
+
+-- a select and a write live for 5,000 ms (Select 4; Write 6)
+abbrev pub holdTime : ℕ
+holdTime = 5000
+
+-- the port is silent after 60,000 ms (Frames 13)
+abbrev pub silenceLimit : ℕ
+silenceLimit = 60000
+
+-- a record has six characters and two for each of up to 16 values; a file holds 32 records (History 3, 4)
+abbrev pub recordHead : ℕ
+recordHead = 6
+
+abbrev pub recordSize : ℕ → ℕ
+recordSize v = 6 + 2 * v
+
+abbrev pub longestRecord : ℕ
+longestRecord = 38
+
+abbrev pub fileRoom : ℕ
+fileRoom = 32

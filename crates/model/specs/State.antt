@@ -1,0 +1,75 @@
+-- What a unit keeps: core, areas and history, and the port beside them.
+use Prim.Native.Nat.{ℕ}
+use mathlib.Core.List.{List, [], _∷_, _++_}
+use mathlib.Core.Bool.{true, false}
+use lib.ListN.{getD, set, drop, replicate}
+use Rattle.model.specs.Config.{Config}
+use Rattle.model.specs.declared.Core.{Core}
+use Rattle.model.specs.declared.Hold.the-variants.{Free}
+use Rattle.model.specs.declared.Pending.the-variants.{NoWrite}
+use Rattle.model.specs.declared.Memory.{Memory}
+use Rattle.model.specs.declared.Memory.the-variants.{Nothing}
+use Rattle.model.specs.declared.Mark.the-variants.{Fine}
+use Rattle.model.specs.declared.Port.{Port}
+
+-- 256 words of inputs, 128 calculation values, the fixed area of 528 characters, the parameter block (Scans 2, 18; Write 1)
+pub record Areas : Type 0 where
+  pub words : List ℕ
+  pub values : List ℕ
+  pub fixed : List ℕ
+  pub block : List ℕ
+
+-- for each file its records, oldest first (History 4)
+abbrev pub Files : Type 0
+Files = List (List (List ℕ))
+
+-- the latest history reply, and the records (History 6)
+pub record History : Type 0 where
+  pub memory : Memory
+  pub files : Files
+
+-- all that is kept but the port
+pub record Inner : Type 0 where
+  pub core : Core
+  pub areas : Areas
+  pub history : History
+
+pub record State : Type 0 where
+  pub inner : Inner
+  pub port : Port
+
+-- the records held in file f
+unfoldable pub heldIn : Files → ℕ → List (List ℕ)
+heldIn fs f = getD fs f []
+
+-- one record more, the newest
+unfoldable pub storeIn : Files → ℕ → List ℕ → Files
+storeIn fs f r = set fs f (heldIn fs f ++ (r ∷ []))
+
+-- the n oldest leave
+unfoldable pub releaseIn : Files → ℕ → ℕ → Files
+releaseIn fs f n = set fs f (drop n (heldIn fs f))
+
+-- a fresh unit: day 1, 00:00:00.000, bit 7, all else empty or 0 (Outcomes 8; Frames 10)
+unfoldable pub freshCore : Core
+freshCore =
+    record {
+      clock = record { day = 1; hour = 0; minute = 0; second = 0; ms = 0 };
+      hold = Free;
+      write = NoWrite;
+      configure = true;
+      error = false;
+      broadcast = false;
+    }
+
+unfoldable pub freshAreas : Config → Areas
+freshAreas c = record { words = replicate 256 0; values = replicate 128 0; fixed = replicate 528 0; block = replicate (c .block) 0 }
+
+unfoldable pub freshHistory : History
+freshHistory = record { memory = Nothing; files = replicate 32 [] }
+
+unfoldable pub freshPort : Port
+freshPort = record { silence = 0; mark = Fine }
+
+unfoldable pub freshOf : Config → State
+freshOf c = record { inner = record { core = freshCore; areas = freshAreas c; history = freshHistory }; port = freshPort }

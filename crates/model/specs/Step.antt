@@ -1,0 +1,313 @@
+-- One event: what a unit that works makes of it. The port is not seen here.
+use Prim.Native.Nat.{ℕ, _+_}
+use mathlib.Core.List.{List, [], _∷_}
+use mathlib.Core.Bool.{Bool, true, false, cond, _&&_}
+use lib.ListN.{length, getD}
+use lib.Dec.{eqb}
+use Rattle.model.specs.Frame.{Request, unitOf, masterOf, broadcastUnit, heardOf, requestIn}
+use Rattle.model.specs.Outcome.{numberOf, sendingOf, replyFunction}
+use Rattle.model.specs.Config.{Config}
+use Rattle.model.specs.State.{Areas, History, Inner, storeIn}
+use Rattle.model.specs.Scan.{Scan, counts}
+use Rattle.model.specs.Inputs.{Changed, inputsOf, setWordOf, pulsesOf, resetCountOf}
+use Rattle.model.specs.Tables.{tablesOf}
+use Rattle.model.specs.Calculations.{calculationsOf, setValueOf}
+use Rattle.model.specs.Control.{Controlled, controlOf, breaks, heldAfter}
+use Rattle.model.specs.Blocks.{Written, Executed, writeOf, executeOf, readOf, dropped, waitsAfter}
+use Rattle.model.specs.Clock.{Timed, setTimeOf, readTimeOf, clockAfter}
+use Rattle.model.specs.History.{Told, historyOf, recordChars, storedAs}
+use Rattle.model.specs.declared.Input.{Input}
+use Rattle.model.specs.declared.SpecialCalculation.{SpecialCalculation}
+use Rattle.model.specs.declared.File.{File}
+use Rattle.model.specs.declared.Outcome.{Outcome}
+use Rattle.model.specs.declared.Outcome.the-variants.{
+  Done,
+  NotWhole,
+  CheckWrong,
+  OtherUnit,
+  BroadcastDone,
+  Unknown,
+  WrongCount,
+  BrokenOff,
+  BroadcastRefused,
+}
+use Rattle.model.specs.declared.Sending.{Sending}
+use Rattle.model.specs.declared.Sending.the-variants.{Normal, Nop, Rst, Unanswered}
+use Rattle.model.specs.declared.Stored.{Stored}
+use Rattle.model.specs.declared.Stored.the-variants.{Kept, Full, NotEquipped, WrongValues}
+use Rattle.model.specs.declared.Answer.{Answer}
+use Rattle.model.specs.declared.Answer.the-variants.{Ended, Storing}
+use Rattle.model.specs.declared.Action.{Action}
+use Rattle.model.specs.declared.Action.the-variants.{Rest}
+use Rattle.model.specs.declared.Heard.{Heard}
+use Rattle.model.specs.declared.Heard.the-variants.{Broken, Wrong, Whole}
+use Rattle.model.specs.declared.Clock.{Clock}
+use Rattle.model.specs.declared.Hold.{Hold}
+use Rattle.model.specs.declared.Hold.the-variants.{Free}
+use Rattle.model.specs.declared.Pending.{Pending}
+use Rattle.model.specs.declared.Pending.the-variants.{NoWrite}
+use Rattle.model.specs.declared.Memory.the-variants.{Nothing}
+use Rattle.model.specs.declared.Core.{Core}
+
+-- what may happen to a unit: a stretch, with the length of the lent buffer; time; the local events (Covers 3; Outcomes 9; Scans 3)
+pub data Event : Type 0 where
+  stretch : ℕ → List ℕ → Event
+  elapsed : ℕ → Event
+  setWord : Input → ℕ → Event
+  setValue : SpecialCalculation → ℕ → Event
+  pulses : Input → ℕ → Event
+  store : File → ℕ → List ℕ → Event
+
+-- what a function makes of a request that reaches it
+pub record Step : Type 0 where
+  pub outcome : Outcome
+  pub action : Action
+  pub chars : List ℕ
+  pub core : Core
+  pub areas : Areas
+
+-- ---- each kind of function by what it can change
+
+abbrev pub withClock : Core → Clock → Core
+withClock k t = record { clock = t; hold = k .hold; write = k .write; configure = k .configure; error = k .error; broadcast = k .broadcast }
+
+abbrev pub withHold : Core → Hold → Core
+withHold k h = record { clock = k .clock; hold = h; write = k .write; configure = k .configure; error = k .error; broadcast = k .broadcast }
+
+abbrev pub withWrite : Core → Pending → Core
+withWrite k p = record { clock = k .clock; hold = k .hold; write = p; configure = k .configure; error = k .error; broadcast = k .broadcast }
+
+abbrev pub withConfigure : Core → Bool → Core
+withConfigure k b = record { clock = k .clock; hold = k .hold; write = k .write; configure = b; error = k .error; broadcast = k .broadcast }
+
+abbrev pub withError : Core → Bool → Core
+withError k b = record { clock = k .clock; hold = k .hold; write = k .write; configure = k .configure; error = b; broadcast = k .broadcast }
+
+abbrev pub withBroadcast : Core → Bool → Core
+withBroadcast k b = record { clock = k .clock; hold = k .hold; write = k .write; configure = k .configure; error = k .error; broadcast = b }
+
+abbrev pub withWords : Areas → List ℕ → Areas
+withWords a words = record { words = words; values = a .values; fixed = a .fixed; block = a .block }
+
+abbrev pub withValues : Areas → List ℕ → Areas
+withValues a values = record { words = a .words; values = values; fixed = a .fixed; block = a .block }
+
+unfoldable pub refused : Outcome → Core → Areas → Step
+refused o k a = record { outcome = o; action = Rest; chars = []; core = k; areas = a }
+
+unfoldable pub scanned : Core → Areas → Scan → Step
+scanned k a r = record { outcome = r .outcome; action = Rest; chars = r .chars; core = k; areas = a }
+
+unfoldable pub changed : Core → Areas → Changed → Step
+changed k a r = record { outcome = r .outcome; action = Rest; chars = r .chars; core = k; areas = withWords a (r .area) }
+
+unfoldable pub controlled : Core → Areas → Controlled → Step
+controlled k a r = record { outcome = r .outcome; action = r .action; chars = r .chars; core = withHold k (r .hold); areas = a }
+
+unfoldable pub timed : Core → Areas → Timed → Step
+timed k a r = record { outcome = r .outcome; action = Rest; chars = []; core = withClock k (r .clock); areas = a }
+
+unfoldable pub written : Core → Areas → Written → Step
+written k a r = record { outcome = r .outcome; action = Rest; chars = []; core = withWrite k (r .write); areas = a }
+
+-- an accepted EXECUTE clears bit 7 or bit 3 (Frames 10)
+unfoldable pub executed : Core → Areas → Executed → Step
+executed k a r =
+    record {
+      outcome = r .outcome;
+      action = Rest;
+      chars = [];
+      core = withError (withConfigure k (cond (r .configures) false (k .configure))) (cond (r .clears) false (k .error));
+      areas = record { words = a .words; values = a .values; fixed = r .fixed; block = r .block };
+    }
+
+-- ---- the functions that see no history (Covers 1)
+
+-- function 20h but for 20h/00 (paper 6.1)
+unfoldable pub internalOf : Config → Core → Areas → Request → Step
+internalOf c k a q =
+    cond (eqb (q .command) 0x11) (changed k a (resetCountOf (c .inputs) (a .words) q))
+    (cond (eqb (q .command) 0x30) (written k a (writeOf (k .write) q))
+    (cond (eqb (q .command) 0x31) (executed k a (executeOf (k .write) (a .fixed) (a .block) q))
+    (cond (eqb (q .command) 0x38) (timed k a (setTimeOf (k .clock) q))
+    (refused Unknown k a))))
+
+-- function 28h (paper 7)
+unfoldable pub returnOf : Core → Areas → Request → Step
+returnOf k a q =
+    cond (eqb (q .command) 0x30) (scanned k a (readOf (a .fixed) (a .block) q))
+    (cond (eqb (q .command) 0x31) (scanned k a (readTimeOf (k .clock) q))
+    (refused Unknown k a))
+
+-- by function code; a function with bit 6 or 7 set is none of them (row 6; paper 1.1.3)
+unfoldable pub otherOf : Config → Core → Areas → Request → Step
+otherOf c k a q =
+    cond (eqb (q .function) 0x00) (scanned k a (inputsOf (c .inputs) (a .words) q))
+    (cond (eqb (q .function) 0x03) (scanned k a (calculationsOf (c .calculations) (a .values) q))
+    (cond (eqb (q .function) 0x0A) (scanned k a (tablesOf (c .inputs) (a .fixed) (a .words) q))
+    (cond (eqb (q .function) 0x10) (controlled k a (controlOf (c .outputs) (k .hold) q))
+    (cond (eqb (q .function) 0x20) (internalOf c k a q)
+    (cond (eqb (q .function) 0x28) (returnOf k a q)
+    (refused Unknown k a))))))
+
+-- ---- a frame for this unit
+
+-- the status character as the frame found the unit (Frames 10; paper 1.2.4)
+unfoldable pub statusOf : Core → ℕ
+statusOf k = cond (k .configure) 0x80 0 + (cond (k .error) 0x08 0 + cond (k .broadcast) 0x04 0)
+
+-- a reply but for its port status and check
+pub record Said : Type 0 where
+  pub address : ℕ
+  pub function : ℕ
+  pub status : ℕ
+  pub chars : List ℕ
+
+pub data Sent : Type 0 where
+  silent : Sent
+  said : Said → Sent
+
+-- what is sent (the outcome table's last column)
+unfoldable pub sentAs : Sending → Said → Sent
+sentAs Normal r = said r
+sentAs Nop r = said r
+sentAs Rst r = said r
+sentAs Unanswered r = silent
+
+unfoldable pub answered : Sending → Bool
+answered Normal = true
+answered Nop = true
+answered Rst = true
+answered Unanswered = false
+
+-- what the unit makes of an event
+pub record Made : Type 0 where
+  pub answer : Answer
+  pub action : Action
+  pub sent : Sent
+  pub inner : Inner
+
+unfoldable pub quiet : Answer → Inner → Made
+quiet o i = record { answer = o; action = Rest; sent = silent; inner = i }
+
+-- what every frame for this unit does: a write of its master is dropped but by a WRITE taken; a reply clears bit 2 (Write 6; Frames 10)
+unfoldable pub settled : Request → Outcome → Core → Core
+settled q o k =
+    withBroadcast (withWrite k (cond (eqb (numberOf o) 5) (k .write) (dropped (k .write) (masterOf (q .address)))))
+    (cond (answered (sendingOf o)) false (k .broadcast))
+
+-- a frame for this unit, with the core as it found it, what its function made, and the history after it (Frames 5, 9, 10)
+unfoldable pub finished : Core → Request → Step → History → Made
+finished found q p h =
+    record {
+      answer = Ended (p .outcome);
+      action = p .action;
+      sent = sentAs (sendingOf (p .outcome))
+          (record { address = q .address; function = replyFunction (q .function) (p .outcome); status = statusOf found; chars = p .chars });
+      inner = record { core = settled q (p .outcome) (p .core); areas = p .areas; history = h };
+    }
+
+-- a function that sees no history
+unfoldable pub beside : Inner → Request → Step → Made
+beside i q p = finished (i .core) q p (i .history)
+
+-- a frame of the select's own master that is no operate: the select is cancelled, with nothing else done (Select 5)
+unfoldable pub brokenOff : Core → Areas → Step
+brokenOff k a = refused BrokenOff (withHold k Free) a
+
+-- function 04 sees the history, and neither core nor areas
+unfoldable pub historyMade : Inner → Request → Told → Made
+historyMade i q t =
+    finished (i .core) q (record { outcome = t .outcome; action = Rest; chars = t .chars; core = i .core; areas = i .areas }) (t .history)
+
+-- 20h/00 (Write 19, 20; paper 6.2)
+unfoldable pub initialises : Request → Bool
+initialises q = eqb (q .function) 0x20 && eqb (q .command) 0x00
+
+-- the select, its mark and the write are forgotten, and bit 7 is set
+unfoldable pub restarted : Core → Core
+restarted k = withConfigure (withWrite (withHold k Free) NoWrite) true
+
+unfoldable pub forgotten : History → History
+forgotten h = record { memory = Nothing; files = h .files }
+
+unfoldable pub initialised : Inner → Request → Made
+initialised i q =
+    cond (counts 0 q)
+    (finished (i .core) q (refused Done (restarted (i .core)) (i .areas)) (forgotten (i .history)))
+    (beside i q (refused WrongCount (i .core) (i .areas)))
+
+-- 12 comes before 6 and 7, and these before what each function judges (Outcomes 1)
+unfoldable pub served : Config → Inner → Request → Made
+served c i q =
+    cond (breaks (i .core .hold) q) (beside i q (brokenOff (i .core) (i .areas)))
+    (cond (eqb (q .function) 0x04) (historyMade i q (historyOf (c .files) (c .values) (i .history) q))
+    (cond (initialises q) (initialised i q)
+    (beside i q (otherOf c (i .core) (i .areas) q))))
+
+-- ---- a broadcast
+
+-- 20h/11h and 20h/38h only, under the same checks (Outcomes 10)
+unfoldable pub broadcastOf : Config → Core → Areas → Request → Step
+broadcastOf c k a q =
+    cond (eqb (q .function) 0x20 && eqb (q .command) 0x11) (changed k a (resetCountOf (c .inputs) (a .words) q))
+    (cond (eqb (q .function) 0x20 && eqb (q .command) 0x38) (timed k a (setTimeOf (k .clock) q))
+    (refused Unknown k a))
+
+-- it is not answered, and sets bit 2; select, write and history reply stand (Outcomes 10, 11; Frames 10)
+unfoldable pub broadcastMade : Inner → Step → Made
+broadcastMade i p =
+    quiet (Ended (cond (eqb (numberOf (p .outcome)) 0) BroadcastDone BroadcastRefused))
+    (record { core = withBroadcast (p .core) true; areas = p .areas; history = i .history })
+
+-- ---- a stretch
+
+-- for this unit, for all, or for another (Outcomes 1; row 3)
+unfoldable pub framed : Config → Inner → Request → Made
+framed c i q =
+    cond (eqb (unitOf (q .address)) (c .unit)) (served c i q)
+    (cond (eqb (unitOf (q .address)) broadcastUnit) (broadcastMade i (broadcastOf c (i .core) (i .areas) q))
+    (quiet (Ended OtherUnit) i))
+
+-- damage changes nothing here (rows 1, 2)
+unfoldable pub judged : Config → Inner → List ℕ → Heard → Made
+judged c i s Broken = quiet (Ended NotWhole) i
+judged c i s Wrong = quiet (Ended CheckWrong) i
+judged c i s (Whole f) = framed c i (requestIn f s)
+
+-- ---- time and the local events
+
+-- time moves clock, select and write (Outcomes 9)
+unfoldable pub coreAfter : Core → ℕ → Core
+coreAfter k ms = withWrite (withHold (withClock k (clockAfter (k .clock) ms)) (heldAfter (k .hold) ms)) (waitsAfter (k .write) ms)
+
+unfoldable pub elapsedMade : Inner → ℕ → Made
+elapsedMade i ms = quiet (Ended Done) (record { core = coreAfter (i .core) ms; areas = i .areas; history = i .history })
+
+unfoldable pub localMade : Inner → Outcome → Areas → Made
+localMade i o a = quiet (Ended o) (record { core = i .core; areas = a; history = i .history })
+
+unfoldable pub wordMade : Inner → Changed → Made
+wordMade i r = localMade i (r .outcome) (withWords (i .areas) (r .area))
+
+unfoldable pub valueMade : Inner → Changed → Made
+valueMade i r = localMade i (r .outcome) (withValues (i .areas) (r .area))
+
+-- a record is kept, or the file was full, which sets bit 3 (History 5; Frames 10)
+unfoldable pub storeMade : Inner → ℕ → List ℕ → Stored → Made
+storeMade i f r Kept =
+    quiet (Storing Kept)
+    (record { core = i .core; areas = i .areas; history = record { memory = i .history .memory; files = storeIn (i .history .files) f r } })
+storeMade i f r Full = quiet (Storing Full) (record { core = withError (i .core) true; areas = i .areas; history = i .history })
+storeMade i f r NotEquipped = quiet (Storing NotEquipped) i
+storeMade i f r WrongValues = quiet (Storing WrongValues) i
+
+-- what a working unit makes of an event
+unfoldable pub makeOf : Config → Inner → Event → Made
+makeOf c i (stretch room s) = judged c i s (heardOf s)
+makeOf c i (elapsed ms) = elapsedMade i ms
+makeOf c i (setWord n w) = wordMade i (setWordOf (c .inputs) (i .areas .words) (n .0) w)
+makeOf c i (setValue n v) = valueMade i (setValueOf (c .calculations) (i .areas .values) (n .0) v)
+makeOf c i (pulses n p) = wordMade i (pulsesOf (c .inputs) (i .areas .words) (n .0) p)
+makeOf c i (store f e vs) =
+    storeMade i (f .0) (recordChars (record { event = e; clock = i .core .clock }) vs) (storedAs (c .files) (c .values) (i .history .files) (f .0) vs)

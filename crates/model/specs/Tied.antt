@@ -1,0 +1,29 @@
+-- The figures of Limits as the constants of src/lib.rt must be (Frames 19).
+use Rattle.model.specs.Limits.{
+  shortestFrame,
+  longestFrame,
+  replyHead,
+  mostData,
+  longestReply,
+  holdTime,
+  silenceLimit,
+  fileRoom,
+  recordHead,
+  longestRecord,
+}
+use Rattle.model.specs.declared.Limits.{Limits}
+
+abbrev pub limitsTold : Limits
+limitsTold =
+    record {
+      shortest = shortestFrame;
+      longest = longestFrame;
+      head = replyHead;
+      most = mostData;
+      reply = longestReply;
+      hold = holdTime;
+      silent = silenceLimit;
+      room = fileRoom;
+      stamp = recordHead;
+      slot = longestRecord;
+    }
