@@ -1,2 +1,10 @@
+pub mod Conditions
 pub mod Unique
+pub mod FileLaws
+pub mod AreaLaws
 pub mod Cases
+pub mod Runs
+pub mod Parts
+pub mod PartFits
+pub mod Valid
+pub mod Shape

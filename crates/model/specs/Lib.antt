@@ -17,3 +17,4 @@ pub mod Step
 pub mod Port
 pub mod Run
 pub mod Bench
+pub mod Formed

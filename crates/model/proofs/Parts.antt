@@ -1,0 +1,343 @@
+-- A property of a unit that holds part by part: which definitions change a part, and that nothing else does. Assumes nothing.
+use Prim.Native.Nat.{ℕ}
+use mathlib.Core.Path.{_≡_, refl}
+use mathlib.Core.List.{List}
+use mathlib.Core.Bool.{true, _&&_}
+use lib.ListN.{length}
+use lib.Dec.{eqb, ltb}
+use Rattle.model.specs.Frame.{Request, unitOf, masterOf, broadcastUnit, frameIn, heardOf, requestIn, whole, checked}
+use Rattle.model.specs.Outcome.{numberOf}
+use Rattle.model.specs.Config.{Config, hasFile}
+use Rattle.model.specs.State.{Areas, History, Inner, storeIn}
+use Rattle.model.specs.Scan.{Scan, counts}
+use Rattle.model.specs.Inputs.{Changed, resetCountOf}
+use Rattle.model.specs.Control.{controlOf, breaks, heldAfter, isOf}
+use Rattle.model.specs.Blocks.{executeOf, writeOf, dropped, waitsAfter}
+use Rattle.model.specs.Clock.{setTimeOf, clockAfter}
+use Rattle.model.specs.History.{Told, acknowledges, fileOf, untold, releaseFor, toldFrom, agrees, againWhen, historyOf, recordChars, storedAs}
+use Rattle.model.specs.Step.{
+  Event,
+  stretch,
+  elapsed,
+  setWord,
+  setValue,
+  pulses,
+  store,
+  Step,
+  withWords,
+  refused,
+  scanned,
+  changed,
+  controlled,
+  timed,
+  written,
+  executed,
+  internalOf,
+  returnOf,
+  otherOf,
+  Made,
+  quiet,
+  settled,
+  finished,
+  beside,
+  brokenOff,
+  historyMade,
+  initialises,
+  restarted,
+  forgotten,
+  initialised,
+  served,
+  broadcastOf,
+  broadcastMade,
+  framed,
+  judged,
+  coreAfter,
+  elapsedMade,
+  localMade,
+  wordMade,
+  valueMade,
+  storeMade,
+  makeOf,
+}
+use Rattle.model.specs.declared.Outcome.{Outcome}
+use Rattle.model.specs.declared.Outcome.the-variants.{Done, OtherUnit, NotWhole, CheckWrong, Unknown, WrongCount}
+use Rattle.model.specs.declared.Stored.{Stored}
+use Rattle.model.specs.declared.Stored.the-variants.{Kept, Full, NotEquipped, WrongValues}
+use Rattle.model.specs.declared.Answer.{Answer}
+use Rattle.model.specs.declared.Answer.the-variants.{Ended}
+use Rattle.model.specs.declared.Master.{Master}
+use Rattle.model.specs.declared.Record.{Record}
+use Rattle.model.specs.declared.Clock.{Clock}
+use Rattle.model.specs.declared.Hold.{Hold}
+use Rattle.model.specs.declared.Hold.the-variants.{Free}
+use Rattle.model.specs.declared.Pending.{Pending}
+use Rattle.model.specs.declared.Pending.the-variants.{NoWrite, Waits}
+use Rattle.model.specs.declared.Memory.{Memory}
+use Rattle.model.specs.declared.Memory.the-variants.{Nothing, Remembered}
+use Rattle.model.specs.declared.Core.{Core}
+use Rattle.model.proofs.Conditions.{by-cond}
+use Rattle.model.proofs.AreaLaws.{SameLengths, setWord-long, pulses-long, resetCount-long, setValue-long, execute-long}
+
+-- ---- a property, part by part
+
+-- one of each part that is kept, and what it asks of a request and of an event
+pub record Parts : Type 1 where
+  pub clock : Clock → Type 0
+  pub hold : Hold → Type 0
+  pub write : Pending → Type 0
+  pub areas : Areas → Type 0
+  pub history : History → Type 0
+  pub request : Request → Type 0
+  pub event : Event → Type 0
+
+pub record CoreHas (p : Parts) (k : Core) : Type 0 where
+  pub clock : p .clock (k .clock)
+  pub hold : p .hold (k .hold)
+  pub write : p .write (k .write)
+
+pub record InnerHas (p : Parts) (i : Inner) : Type 0 where
+  pub core : CoreHas p (i .core)
+  pub areas : p .areas (i .areas)
+  pub history : p .history (i .history)
+
+record StepHas (p : Parts) (s : Step) : Type 0 where
+  core : CoreHas p (s .core)
+  areas : p .areas (s .areas)
+
+-- it outlasts each definition that changes a part, and these are all
+pub record Lasts (c : Config) (p : Parts) : Type 0 where
+  pub heard : (room : ℕ) (s : List ℕ) → p .event (stretch room s) → p .request (requestIn (frameIn s) s)
+  pub set-time : (k : Clock) (q : Request) → p .clock k → p .clock (setTimeOf k q .clock)
+  pub clock-after : (k : Clock) (ms : ℕ) → p .clock k → p .clock (clockAfter k ms)
+  pub free : p .hold Free
+  pub control : (h : Hold) (q : Request) → p .request q → p .hold h → p .hold (controlOf (c .outputs) h q .hold)
+  pub held-after : (h : Hold) (ms : ℕ) → p .hold h → p .hold (heldAfter h ms)
+  pub no-write : p .write NoWrite
+  pub write : (w : Pending) (q : Request) → p .request q → p .write w → p .write (writeOf w q .write)
+  pub waits-after : (w : Pending) (ms : ℕ) → p .write w → p .write (waitsAfter w ms)
+  pub lengths : (a b : Areas) → SameLengths a b → p .areas a → p .areas b
+  pub told : (h : History) (q : Request) → p .request q → hasFile (c .files) (fileOf q) ≡ true → p .history h
+      → p .history (toldFrom (c .values) (releaseFor (h .memory) (h .files) (masterOf (q .address))) q .history)
+  pub forgotten : (h : History) → p .history h → p .history (forgotten h)
+  pub kept : (h : History) (f : ℕ) (r : Record) (vs : List ℕ) → storedAs (c .files) (c .values) (h .files) f vs ≡ Kept → p .history h
+      → p .history (record { memory = h .memory; files = storeIn (h .files) f (recordChars r vs) })
+
+Makes : Parts → Made → Type 0
+Makes p m = InnerHas p (m .inner)
+
+module _ (c : Config) (p : Parts) (l : Lasts c p) where
+  dropped-has : (w : Pending) (m : Master) → p .write w → p .write (dropped w m)
+  unfolding dropped
+  dropped-has NoWrite m h = h
+  dropped-has (Waits w) m h = by-cond (p .write) (isOf (w .master) m) (λ e. l .no-write) (λ e. h)
+
+  settled-has : (q : Request) (o : Outcome) (k : Core) → CoreHas p k → CoreHas p (settled q o k)
+  unfolding settled
+  settled-has q o k h =
+      record {
+        clock = h .clock;
+        hold = h .hold;
+        write = by-cond (p .write) (eqb (numberOf o) 5) (λ e. h .write) (λ e. dropped-has (k .write) (masterOf (q .address)) (h .write));
+      }
+
+  finished-has : (k : Core) (q : Request) (s : Step) (h : History) → StepHas p s → p .history h → Makes p (finished k q s h)
+  unfolding Makes finished
+  finished-has k q s h r t = record { core = settled-has q (s .outcome) (s .core) (r .core); areas = r .areas; history = t }
+
+  quiet-has : (o : Answer) (i : Inner) → InnerHas p i → Makes p (quiet o i)
+  unfolding Makes quiet
+  quiet-has o i h = h
+
+  module _ (k : Core) (a : Areas) (kh : CoreHas p k) (ah : p .areas a) where
+    refused-has : (o : Outcome) → StepHas p (refused o k a)
+    unfolding refused
+    refused-has o = record { core = kh; areas = ah }
+
+    scanned-has : (r : Scan) → StepHas p (scanned k a r)
+    unfolding scanned
+    scanned-has r = record { core = kh; areas = ah }
+
+    changed-has : (q : Request) → StepHas p (changed k a (resetCountOf (c .inputs) (a .words) q))
+    unfolding changed
+    changed-has q =
+        let s : SameLengths a (withWords a (resetCountOf (c .inputs) (a .words) q .area)) =
+        record { words = resetCount-long (c .inputs) (a .words) q; values = refl; fixed = refl; block = refl } in
+        record { core = kh; areas = l .lengths a _ s ah }
+
+    timed-has : (q : Request) → StepHas p (timed k a (setTimeOf (k .clock) q))
+    unfolding timed
+    timed-has q = record { core = record { clock = l .set-time (k .clock) q (kh .clock); hold = kh .hold; write = kh .write }; areas = ah }
+
+    controlled-has : (q : Request) → p .request q → StepHas p (controlled k a (controlOf (c .outputs) (k .hold) q))
+    unfolding controlled
+    controlled-has q g = record { core = record { clock = kh .clock; hold = l .control (k .hold) q g (kh .hold); write = kh .write }; areas = ah }
+
+    written-has : (q : Request) → p .request q → StepHas p (written k a (writeOf (k .write) q))
+    unfolding written
+    written-has q g = record { core = record { clock = kh .clock; hold = kh .hold; write = l .write (k .write) q g (kh .write) }; areas = ah }
+
+    executed-has : (q : Request) → StepHas p (executed k a (executeOf (k .write) (a .fixed) (a .block) q))
+    unfolding executed
+    executed-has q =
+        let r = executeOf (k .write) (a .fixed) (a .block) q in
+        let e = execute-long (a .fixed) (a .block) (k .write) q in
+        let b : Areas = record { words = a .words; values = a .values; fixed = r .fixed; block = r .block } in
+        let s : SameLengths a b = record { words = refl; values = refl; fixed = e .fixed; block = e .block } in
+        record { core = record { clock = kh .clock; hold = kh .hold; write = kh .write }; areas = l .lengths a b s ah }
+
+    internal-has : (q : Request) → p .request q → StepHas p (internalOf c k a q)
+    unfolding internalOf
+    internal-has q g =
+        by-cond (StepHas p) (eqb (q .command) 0x11) (λ e. changed-has q)
+        (λ e. by-cond (StepHas p) (eqb (q .command) 0x30) (λ e. written-has q g)
+        (λ e. by-cond (StepHas p) (eqb (q .command) 0x31) (λ e. executed-has q)
+        (λ e. by-cond (StepHas p) (eqb (q .command) 0x38) (λ e. timed-has q)
+        (λ e. refused-has Unknown))))
+
+    return-has : (q : Request) → StepHas p (returnOf k a q)
+    unfolding returnOf
+    return-has q =
+        by-cond (StepHas p) (eqb (q .command) 0x30) (λ e. scanned-has _)
+        (λ e. by-cond (StepHas p) (eqb (q .command) 0x31) (λ e. scanned-has _)
+        (λ e. refused-has Unknown))
+
+    other-has : (q : Request) → p .request q → StepHas p (otherOf c k a q)
+    unfolding otherOf
+    other-has q g =
+        by-cond (StepHas p) (eqb (q .function) 0x00) (λ e. scanned-has _)
+        (λ e. by-cond (StepHas p) (eqb (q .function) 0x03) (λ e. scanned-has _)
+        (λ e. by-cond (StepHas p) (eqb (q .function) 0x0A) (λ e. scanned-has _)
+        (λ e. by-cond (StepHas p) (eqb (q .function) 0x10) (λ e. controlled-has q g)
+        (λ e. by-cond (StepHas p) (eqb (q .function) 0x20) (λ e. internal-has q g)
+        (λ e. by-cond (StepHas p) (eqb (q .function) 0x28) (λ e. return-has q)
+        (λ e. refused-has Unknown))))))
+
+    broadcast-has : (q : Request) → StepHas p (broadcastOf c k a q)
+    unfolding broadcastOf
+    broadcast-has q =
+        by-cond (StepHas p) (eqb (q .function) 0x20 && eqb (q .command) 0x11) (λ e. changed-has q)
+        (λ e. by-cond (StepHas p) (eqb (q .function) 0x20 && eqb (q .command) 0x38) (λ e. timed-has q)
+        (λ e. refused-has Unknown))
+
+  module _ (i : Inner) (h : InnerHas p i) where
+    beside-has : (q : Request) (s : Step) → StepHas p s → Makes p (beside i q s)
+    unfolding beside
+    beside-has q s r = finished-has (i .core) q s (i .history) r (h .history)
+
+    brokenOff-has : StepHas p (brokenOff (i .core) (i .areas))
+    unfolding brokenOff refused
+    brokenOff-has = record { core = record { clock = h .core .clock; hold = l .free; write = h .core .write }; areas = h .areas }
+
+    -- sending again, and a refusal, change nothing
+    again-has : (m : Memory) (q : Request) → p .history (againWhen m (i .history) q .history)
+    unfolding againWhen untold
+    again-has Nothing q = h .history
+    again-has (Remembered t) q = by-cond {A = Told} (λ x. p .history (x .history)) (agrees t q) (λ e. h .history) (λ e. h .history)
+
+    history-has : (q : Request) → p .request q → p .history (historyOf (c .files) (c .values) (i .history) q .history)
+    unfolding historyOf untold
+    history-has q g =
+        let P : Told → Type 0 = λ x. p .history (x .history) in
+        by-cond P (ltb (q .command) 128)
+        (λ e. by-cond P (counts 0 q)
+        (λ e. by-cond P (hasFile (c .files) (fileOf q))
+        (λ e. by-cond P (acknowledges q) (λ a. l .told (i .history) q g e (h .history)) (λ a. again-has (i .history .memory) q))
+        (λ e. h .history))
+        (λ e. h .history))
+        (λ e. h .history)
+
+    historyMade-has : (q : Request) → p .request q → Makes p (historyMade i q (historyOf (c .files) (c .values) (i .history) q))
+    unfolding historyMade
+    historyMade-has q g =
+        finished-has (i .core) q _ _ (record { core = h .core; areas = h .areas }) (history-has q g)
+
+    restarted-has : StepHas p (refused Done (restarted (i .core)) (i .areas))
+    unfolding refused restarted
+    restarted-has = record { core = record { clock = h .core .clock; hold = l .free; write = l .no-write }; areas = h .areas }
+
+    initialised-has : (q : Request) → Makes p (initialised i q)
+    unfolding initialised
+    initialised-has q =
+        by-cond (Makes p) (counts 0 q)
+        (λ e. finished-has (i .core) q _ _ restarted-has (l .forgotten (i .history) (h .history)))
+        (λ e. beside-has q _ (refused-has (i .core) (i .areas) (h .core) (h .areas) WrongCount))
+
+    served-has : (q : Request) → p .request q → Makes p (served c i q)
+    unfolding served
+    served-has q g =
+        by-cond (Makes p) (breaks (i .core .hold) q) (λ e. beside-has q _ brokenOff-has)
+        (λ e. by-cond (Makes p) (eqb (q .function) 0x04) (λ e. historyMade-has q g)
+        (λ e. by-cond (Makes p) (initialises q) (λ e. initialised-has q)
+        (λ e. beside-has q _ (other-has (i .core) (i .areas) (h .core) (h .areas) q g))))
+
+    broadcastMade-has : (s : Step) → StepHas p s → Makes p (broadcastMade i s)
+    unfolding Makes broadcastMade quiet
+    broadcastMade-has s r =
+        record {
+          core = record { clock = r .core .clock; hold = r .core .hold; write = r .core .write };
+          areas = r .areas;
+          history = h .history;
+        }
+
+    framed-has : (q : Request) → p .request q → Makes p (framed c i q)
+    unfolding framed
+    framed-has q g =
+        by-cond (Makes p) (eqb (unitOf (q .address)) (c .unit)) (λ e. served-has q g)
+        (λ e. by-cond (Makes p) (eqb (unitOf (q .address)) broadcastUnit)
+        (λ e. broadcastMade-has _ (broadcast-has (i .core) (i .areas) (h .core) (h .areas) q))
+        (λ e. quiet-has (Ended OtherUnit) i h))
+
+    -- a stretch that was not heard as a frame changes nothing
+    stretch-has : (s : List ℕ) → p .request (requestIn (frameIn s) s) → Makes p (judged c i s (heardOf s))
+    unfolding judged heardOf
+    stretch-has s g =
+        by-cond (λ x. Makes p (judged c i s x)) (whole s)
+        (λ e. by-cond (λ x. Makes p (judged c i s x)) (checked s) (λ e. framed-has (requestIn (frameIn s) s) g) (λ e. quiet-has (Ended CheckWrong) i h))
+        (λ e. quiet-has (Ended NotWhole) i h)
+
+    elapsed-has : (ms : ℕ) → Makes p (elapsedMade i ms)
+    unfolding Makes elapsedMade quiet coreAfter
+    elapsed-has ms =
+        record {
+          core = record {
+            clock = l .clock-after (i .core .clock) ms (h .core .clock);
+            hold = l .held-after (i .core .hold) ms (h .core .hold);
+            write = l .waits-after (i .core .write) ms (h .core .write);
+          };
+          areas = h .areas;
+          history = h .history;
+        }
+
+    local-has : (o : Outcome) (a : Areas) → SameLengths (i .areas) a → Makes p (localMade i o a)
+    unfolding Makes localMade quiet
+    local-has o a s = record { core = h .core; areas = l .lengths (i .areas) a s (h .areas); history = h .history }
+
+    word-has : (r : Changed) → length (r .area) ≡ length (i .areas .words) → Makes p (wordMade i r)
+    unfolding wordMade
+    word-has r e = local-has _ _ (record { words = e; values = refl; fixed = refl; block = refl })
+
+    value-has : (r : Changed) → length (r .area) ≡ length (i .areas .values) → Makes p (valueMade i r)
+    unfolding valueMade
+    value-has r e = local-has _ _ (record { words = refl; values = e; fixed = refl; block = refl })
+
+    store-has : (f : ℕ) (r : Record) (vs : List ℕ) (o : Stored) → storedAs (c .files) (c .values) (i .history .files) f vs ≡ o → Makes p (storeMade i f (recordChars r vs) o)
+    unfolding Makes storeMade quiet
+    store-has f r vs Kept e = record { core = h .core; areas = h .areas; history = l .kept (i .history) f r vs e (h .history) }
+    store-has f r vs Full e =
+        record { core = record { clock = h .core .clock; hold = h .core .hold; write = h .core .write }; areas = h .areas; history = h .history }
+    store-has f r vs NotEquipped e = h
+    store-has f r vs WrongValues e = h
+
+    makes : (e : Event) → p .event e → Makes p (makeOf c i e)
+    unfolding makeOf
+    makes (stretch room s) g = stretch-has s (l .heard room s g)
+    makes (elapsed ms) g = elapsed-has ms
+    makes (setWord n w) g = word-has _ (setWord-long (c .inputs) (i .areas .words) (n .0) w)
+    makes (setValue n v) g = value-has _ (setValue-long (c .calculations) (i .areas .values) (n .0) v)
+    makes (pulses n k) g = word-has _ (pulses-long (c .inputs) (i .areas .words) (n .0) k)
+    makes (store f e vs) g = store-has (f .0) (record { event = e; clock = i .core .clock }) vs _ refl
+
+    -- what a unit makes of an event has what the unit had
+    pub make-has : (e : Event) → p .event e → InnerHas p (makeOf c i e .inner)
+    unfolding Makes
+    make-has e g = makes e g
