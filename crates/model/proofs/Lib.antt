@@ -8,3 +8,8 @@ pub mod Parts
 pub mod PartFits
 pub mod Valid
 pub mod Shape
+pub mod Refusing
+pub mod RefusedStretch
+pub mod LocalRefusals
+pub mod TurnedAway
+pub mod Refusals

@@ -18,3 +18,4 @@ pub mod Port
 pub mod Run
 pub mod Bench
 pub mod Formed
+pub mod Refusal
