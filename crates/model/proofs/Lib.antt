@@ -2,6 +2,7 @@ pub mod Conditions
 pub mod Unique
 pub mod FileLaws
 pub mod AreaLaws
+pub mod FrameLaws
 pub mod Cases
 pub mod Runs
 pub mod Parts

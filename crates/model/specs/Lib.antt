@@ -1,6 +1,7 @@
 pub mod Limits
 pub mod Tied
 pub mod Frame
+pub mod Sound
 pub mod Outcome
 pub mod Config
 pub mod State

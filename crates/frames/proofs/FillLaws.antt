@@ -1,0 +1,107 @@
+-- Laws of a reply laid round its data in a buffer: head, then check characters, and the front part that they fill.
+-- Assumes nothing.
+use mathlib.Core.Path.{_≡_, refl, sym, ap, _∙_}
+use Prim.Native.Nat.{ℕ, zero, suc, _+_, _<_, _≤_}
+use native.Mathlib.Omega.{arith}
+use mathlib.Core.List.{List, [], _∷_, _++_}
+use mathlib.Core.Bool.{Bool, true, false, cond}
+use lib.ListN.{length, take, length-append}
+use lib.Dec.{leb}
+use borrow.Author.Tests.{leb-true, le-leb, lt-leb}
+use Rattle.chars.specs.Put.{put, part}
+use Rattle.chars.specs.Word.{word}
+use Rattle.chars.proofs.PutLaws.{length-put, put-none, put-under, put-then, take-put-front, length-part}
+use Rattle.chars.proofs.WordLaws.{length-word}
+use Rattle.checkword.specs.Check.{checkOf}
+use Rattle.model.specs.Frame.{withCheck, headChars, replyChars}
+use Rattle.model.specs.declared.Reply.{Reply}
+use Rattle.frames.specs.Framed.{framedIn}
+
+-- what is there already, written over itself
+put-own : (xs : List ℕ) (at n : ℕ) → put xs at (part xs at n) ≡ xs
+unfolding put part
+put-own [] at n = refl
+put-own (x ∷ xs) zero zero = refl
+put-own (x ∷ xs) zero (suc n) = ap (λ (l : List ℕ). x ∷ l) (put-own xs zero n)
+put-own (x ∷ xs) (suc at) n = ap (λ (l : List ℕ). x ∷ l) (put-own xs at n)
+
+-- five writes side by side are the head
+pub head-put : (xs us vs ws zs bs : List ℕ) (r : Reply)
+    → us ≡ put xs 0 (word (r .address))
+    → vs ≡ put us 2 (r .function ∷ [])
+    → ws ≡ put vs 3 (r .status ∷ [])
+    → zs ≡ put ws 4 (r .port ∷ [])
+    → bs ≡ put zs 5 (word (r .count))
+    → bs ≡ put xs 0 (headChars r)
+unfolding headChars word
+head-put xs us vs ws zs bs r a b c d e =
+    let address = word (r .address) in
+    put-then xs zs bs 0 5 (((address ++ (r .function ∷ [])) ++ (r .status ∷ [])) ++ (r .port ∷ [])) (word (r .count))
+    (put-then xs ws zs 0 4 ((address ++ (r .function ∷ [])) ++ (r .status ∷ [])) (r .port ∷ [])
+    (put-then xs vs ws 0 3 (address ++ (r .function ∷ [])) (r .status ∷ []) (put-then xs us vs 0 2 address (r .function ∷ []) a refl b) refl c) refl d)
+    refl e
+
+length-head : (r : Reply) → length (headChars r) ≡ 7
+unfolding headChars word
+length-head r = refl
+
+module _ (entry : List ℕ) (r : Reply) where
+  -- ---- where the buffer cannot hold the reply
+
+  pub untouched : length entry < 7 + r .count + 2 → (0 ≡ length (framedIn entry r)) × (entry ≡ put entry 0 (framedIn entry r))
+  unfolding framedIn
+  untouched h = rw (lt-leb (7 + r .count + 2) (length entry) h) (refl, sym (put-none entry 0))
+
+  -- ---- where it can
+  module _ (h : 7 + r .count + 2 ≤ length entry) where
+    -- head and data, which stand behind its room
+    front : List ℕ
+    front = headChars r ++ part entry 7 (r .count)
+
+    length-front : length front ≡ 7 + r .count
+    unfolding front
+    length-front = rw length-append (omega (arith, length-head r, length-part entry 7 (r .count) (omega arith)))
+
+    -- what is framed is the reply that the definitions ask for
+    pub framed-is : framedIn entry r ≡ replyChars r (part entry 7 (r .count))
+    unfolding framedIn
+    framed-is = rw (le-leb (7 + r .count + 2) (length entry) h)
+
+    framed-some : framedIn entry r ≡ front ++ word (checkOf front)
+    unfolding replyChars withCheck front
+    framed-some = framed-is
+
+    pub framed-long : length (framedIn entry r) ≡ 7 + r .count + 2
+    framed-long = rw (framed-some, length-append, length-word) (omega (arith, length-front))
+
+    module _ (us : List ℕ) (a : us ≡ put entry 0 (headChars r)) where
+      head-front : us ≡ put entry 0 front
+      unfolding front
+      head-front =
+          a ∙ ap (λ (l : List ℕ). put l 0 (headChars r)) (sym (put-own entry 7 (r .count)))
+          ∙ put-under entry 0 (headChars r) (part entry 7 (r .count)) 7 (omega (arith, length-head r))
+
+      front-read : take (7 + r .count) us ≡ front
+      front-read = rw (head-front, ← length-front) (take-put-front entry front (omega (arith, length-front)))
+
+      -- the check v of the front, written behind it, makes the reply
+      pub framed-put : (v : ℕ) (bs : List ℕ) → v ≡ checkOf (take (7 + r .count) us) → bs ≡ put us (7 + r .count) (word v) → bs ≡ put entry 0 (framedIn entry r)
+      framed-put v bs e b =
+          rw framed-some
+          (put-then entry us bs 0 (7 + r .count) front (word (checkOf front)) head-front (omega (arith, length-front)) (rw (e, front-read) at b))
+
+  framed-fits : length (framedIn entry r) ≤ length entry
+  framed-fits = go (leb (7 + r .count + 2) (length entry)) refl
+    where
+      go : (t : Bool) → leb (7 + r .count + 2) (length entry) ≡ t → length (framedIn entry r) ≤ length entry
+      go true e = let h = leb-true (7 + r .count + 2) (length entry) e in omega (arith, framed-long h)
+      go false e = unfold framedIn in (rw e (omega arith))
+
+  -- the length n that was answered, and the buffer bs as it is then
+  module _ (n : ℕ) (bs : List ℕ) (a : n ≡ length (framedIn entry r)) (b : bs ≡ put entry 0 (framedIn entry r)) where
+    pub filled-fits : n ≤ length bs
+    filled-fits = omega (arith, a, framed-fits, ap length b, length-put entry 0 (framedIn entry r))
+
+    -- the front part of that length is the reply
+    pub filled-front : take n bs ≡ framedIn entry r
+    filled-front = rw (a, b) (take-put-front entry (framedIn entry r) framed-fits)
