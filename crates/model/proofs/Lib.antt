@@ -14,3 +14,9 @@ pub mod RefusedStretch
 pub mod LocalRefusals
 pub mod TurnedAway
 pub mod Refusals
+pub mod Damage
+pub mod Shown
+pub mod Releases
+pub mod Records
+pub mod Demand3
+pub mod Worked

@@ -20,3 +20,6 @@ pub mod Run
 pub mod Bench
 pub mod Formed
 pub mod Refusal
+pub mod Line
+pub mod Damage
+pub mod Demand3

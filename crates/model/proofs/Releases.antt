@@ -1,0 +1,329 @@
+-- One event moves the records as the line shows: a request for this unit, any other stretch, and the events that are no stretch. Assumes nothing.
+use Prim.Native.Nat.{ℕ, _+_, _*_, _/_, _≤_, _<_, min}
+use mathlib.Core.Path.{_≡_, refl, sym, ap, _∙_}
+use mathlib.Core.List.{List, [], _∷_, _++_, append-nil}
+use mathlib.Core.Bool.{Bool, true, false, cond, _&&_, Bool·beq}
+use lib.ListN.{length, getD, take, length-append}
+use lib.Seq.{take-append-le}
+use lib.Dec.{eqb, ltb}
+use native.Mathlib.Nat.{div-lt-iff-lt-mul}
+use native.Mathlib.Omega.{arith}
+use borrow.Author.Tests.{eqb-true, ltb-true}
+use Rattle.model.specs.Frame.{Request, unitOf, masterOf, broadcastUnit, heardOf, requestIn}
+use Rattle.model.specs.Outcome.{sendingOf, functionBits, replyFunction}
+use Rattle.model.specs.Config.{Config, hasFile, sizeOf}
+use Rattle.model.specs.State.{Areas, Files, History, Inner, heldIn, storeIn, releaseIn}
+use Rattle.model.specs.Scan.{counts}
+use Rattle.model.specs.Control.{isOf, breaks}
+use Rattle.model.specs.History.{Told, acknowledges, dumps, fileOf, untold, historyChars, releaseFor, mostOf, toldFrom, agrees, againWhen, historyOf, recordChars, storedAs}
+use Rattle.model.specs.Step.{Event, stretch, elapsed, setWord, setValue, pulses, store, Step, refused, Made, quiet, finished, beside, brokenOff, historyMade, initialises, restarted, forgotten, initialised, served, otherOf, broadcastOf, broadcastMade, framed, judged, elapsedMade, localMade, wordMade, valueMade, storeMade, makeOf}
+use Rattle.model.specs.Port.{sentChars}
+use Rattle.model.specs.Formed.{AllSized}
+use Rattle.model.specs.Line.{Shown, told, forgot, other, shownFor, shownIn, shownBy, Latest, nobody, gave, latestAfter, releasedBy, wasKept, storedBy}
+use Rattle.model.specs.Demand3.{rememberedAs}
+use Rattle.model.specs.declared.Outcome.{Outcome}
+use Rattle.model.specs.declared.Outcome.the-variants.{Done, Unknown, WrongCount, NotValid, NothingAgain, OtherUnit}
+use Rattle.model.specs.declared.Stored.{Stored}
+use Rattle.model.specs.declared.Stored.the-variants.{Kept, Full, NotEquipped, WrongValues}
+use Rattle.model.specs.declared.Answer.{Answer}
+use Rattle.model.specs.declared.Answer.the-variants.{Ended}
+use Rattle.model.specs.declared.Heard.{Heard}
+use Rattle.model.specs.declared.Heard.the-variants.{Broken, Wrong, Whole}
+use Rattle.model.specs.declared.Master.{Master}
+use Rattle.model.specs.declared.File.{File}
+use Rattle.model.specs.declared.Mark.{Mark}
+use Rattle.model.specs.declared.Core.{Core}
+use Rattle.model.specs.declared.HistoryReply.{HistoryReply}
+use Rattle.model.specs.declared.Memory.{Memory}
+use Rattle.model.specs.declared.Memory.the-variants.{Nothing, Remembered}
+use Rattle.model.proofs.Conditions.{by-cond, and-left, and-right}
+use Rattle.model.proofs.FileLaws.{held-store, held-release, stored-kept}
+use Rattle.model.proofs.Shape.{sized-rest}
+use Rattle.model.proofs.Shown.{shown-beside, shown-refused, shown-forgot, shown-told}
+
+-- ---- the invariant: the unit's memory is what the line showed last
+
+-- the records of a remembered reply are held, and no more than a reply can tell
+abbrev Holds : Memory → Files → Type 0
+Holds Nothing fs = Unit {0}
+Holds (Remembered t) fs = (t .quantity ≤ length (heldIn fs (t .file .0))) × (t .quantity < 128)
+
+pub record Matches (h : History) (l : Latest) : Type 0 where
+  pub latest : l ≡ rememberedAs (h .memory) (h .files)
+  pub holds : Holds (h .memory) (h .files)
+
+-- one event: what was held and what is stored is what is released and what is held then; and memory and line match again
+pub record Moved (l : Latest) (h : History) (x : Shown) (new : ℕ → List (List ℕ)) (k : History) : Type 0 where
+  pub moved : (g : ℕ) → heldIn (h .files) g ++ new g ≡ releasedBy l x g ++ heldIn (k .files) g
+  pub matches : Matches k (latestAfter l x)
+
+abbrev nothing : ℕ → List (List ℕ)
+nothing g = []
+
+as-shown : {l : Latest} {h k : History} {x y : Shown} {new : ℕ → List (List ℕ)} → x ≡ y → Moved l h y new k → Moved l h x new k
+as-shown e m = rw e m
+
+-- an entry that shows nothing of history, and keeps it
+released-other : (l : Latest) (g : ℕ) → releasedBy l other g ≡ []
+unfolding releasedBy
+released-other nobody g = refl
+released-other (gave m f rs) g = refl
+
+released-forgot : (l : Latest) (g : ℕ) → releasedBy l forgot g ≡ []
+unfolding releasedBy
+released-forgot nobody g = refl
+released-forgot (gave m f rs) g = refl
+
+released-repeat : (l : Latest) (m : Master) (f : ℕ) (ps : List (List ℕ)) (g : ℕ) → releasedBy l (told m f false ps) g ≡ []
+unfolding releasedBy
+released-repeat nobody m f ps g = refl
+released-repeat (gave h k rs) m f ps g = refl
+
+unreleased : (fs : Files) (g : ℕ) {rs : List (List ℕ)} → rs ≡ [] → heldIn fs g ++ [] ≡ rs ++ heldIn fs g
+unreleased fs g e = rw e (append-nil (heldIn fs g))
+
+still : {l : Latest} {h : History} → Matches h l → {x : Shown} → x ≡ other → Moved l h x nothing h
+unfolding latestAfter
+still {l} {h} t e = rw e (record { moved = λ g. unreleased (h .files) g (released-other l g); matches = t })
+
+-- ---- what a release takes, and how many records a reply tells
+
+file-quantity : (values : List ℕ) (f : ℕ) (d : Bool) (n : ℕ) → min n (mostOf values f d) < 128
+unfolding mostOf sizeOf
+file-quantity values f d n = by-cond (λ k. min n k < 128) d (λ e. omega (arith, fit)) (λ e. omega arith)
+  where
+    fit : 510 / (6 + 2 * getD values f 0) < 128
+    fit =
+        let k : 0 < 6 + 2 * getD values f 0 = omega arith in
+        let h : 510 < 128 * (6 + 2 * getD values f 0) = omega arith in
+        div-lt-iff-lt-mul k .1 h
+
+-- the records of the latest reply, if it went to this master, stood before what is held then
+released-for : (w : Memory) (fs : Files) (m : Master) (f : ℕ) (ps : List (List ℕ)) (g : ℕ)
+    → heldIn fs g ≡ releasedBy (rememberedAs w fs) (told m f true ps) g ++ heldIn (releaseFor w fs m) g
+unfolding releaseFor releasedBy
+released-for Nothing fs m f ps g = refl
+released-for (Remembered t) fs m f ps g = go (isOf (t .master) m)
+  where
+    go : (a : Bool) → heldIn fs g ≡ cond (a && eqb (t .file .0) g) (take (t .quantity) (heldIn fs (t .file .0))) [] ++ heldIn (cond a (releaseIn fs (t .file .0) (t .quantity)) fs) g
+    go true = held-release fs (t .file .0) g (t .quantity)
+    go false = refl
+
+-- what is left is sized as before
+sized-for : {n : ℕ} (w : Memory) (fs : Files) (m : Master) (g : ℕ) → AllSized n (heldIn fs g) → AllSized n (heldIn (releaseFor w fs m) g)
+sized-for w fs m g h = sized-rest (releasedBy (rememberedAs w fs) (told m 0 true []) g) (rw (released-for w fs m 0 [] g) at h)
+
+-- ---- a frame for this unit
+
+-- what a frame comes to is fine if the records held move as the line shows
+Fine : Config → Latest → Inner → Mark → Request → Made → Type 0
+Fine c l i mark q m = Moved l (i .history) (shownFor c q (sentChars mark (m .sent))) nothing (m .inner .history)
+
+module _ (c : Config) (l : Latest) (i : Inner) (mark : Mark) (q : Request) (t : Matches (i .history) l) where
+  refused-fine : (p : Step) → 64 ≤ functionBits (sendingOf (p .outcome)) → Fine c l i mark q (beside i q p)
+  unfolding Fine beside finished replyFunction
+  refused-fine p h = still t (shown-refused c q mark (sendingOf (p .outcome)) _ (omega arith))
+
+  -- a function that sees no history: its code alone tells that it shows none
+  keeps-fine : (p : Step) → eqb (q .function) 0x04 ≡ false → initialises q ≡ false → Fine c l i mark q (beside i q p)
+  unfolding Fine beside finished
+  keeps-fine p a b = still t (shown-beside c q _ a b)
+
+  forgot-moved : Moved l (i .history) forgot nothing (forgotten (i .history))
+  unfolding forgotten latestAfter
+  forgot-moved = record { moved = λ g. unreleased (i .history .files) g (released-forgot l g); matches = record { latest = refl; holds = tt } }
+
+  forgot-fine : initialises q ≡ true → Fine c l i mark q (finished (i .core) q (refused Done (restarted (i .core)) (i .areas)) (forgotten (i .history)))
+  unfolding Fine finished refused
+  forgot-fine a =
+      as-shown (shown-forgot c q mark (i .core) (refused Done (restarted (i .core)) (i .areas)) (forgotten (i .history)) refl a) forgot-moved
+
+  initialised-fine : initialises q ≡ true → Fine c l i mark q (initialised i q)
+  unfolding initialised refused
+  initialised-fine a =
+      by-cond (Fine c l i mark q) (counts 0 q) (λ n. forgot-fine a) (λ n. refused-fine (refused WrongCount (i .core) (i .areas)) (omega arith))
+
+  untold-fine : (o : Outcome) → 64 ≤ functionBits (sendingOf o) → Fine c l i mark q (historyMade i q (untold o (i .history)))
+  unfolding Fine historyMade untold finished replyFunction
+  untold-fine o h = still t (shown-refused c q mark (sendingOf o) _ (omega arith))
+
+  -- an acknowledging request: the records of the latest reply leave, and the new reply is remembered
+  abbrev left : Files
+  left = releaseFor (i .history .memory) (i .history .files) (masterOf (q .address))
+
+  told-moved : (n : ℕ) (b : Bool) → n < 128 → n ≤ length (heldIn left (fileOf q))
+      → Moved l (i .history) (told (masterOf (q .address)) (fileOf q) true (take n (heldIn left (fileOf q)))) nothing
+      (record { memory = Remembered (record { master = masterOf (q .address); file = record { 0 = fileOf q }; dump = dumps q; quantity = n; more = b }); files = left })
+  unfolding latestAfter
+  told-moved n b few most =
+      let ps = take n (heldIn left (fileOf q)) in
+      let k : (g : ℕ) → heldIn (i .history .files) g ≡ releasedBy l (told (masterOf (q .address)) (fileOf q) true ps) g ++ heldIn left g =
+      λ g. rw (t .latest) (released-for (i .history .memory) (i .history .files) (masterOf (q .address)) (fileOf q) ps g) in
+      record { moved = λ g. append-nil (heldIn (i .history .files) g) ∙ k g; matches = record { latest = refl; holds = (most, few) } }
+
+  module _ (sized : (g : ℕ) → AllSized (sizeOf (c .values) g) (heldIn (i .history .files) g)) (a : q .function ≡ 0x04) where
+    acked-fine : acknowledges q ≡ true → Fine c l i mark q (historyMade i q (toldFrom (c .values) left q))
+    unfolding Fine toldFrom historyMade finished
+    acked-fine k =
+        let rs = heldIn left (fileOf q) in
+        let n = min (length rs) (mostOf (c .values) (fileOf q) (dumps q)) in
+        let few = file-quantity (c .values) (fileOf q) (dumps q) (length rs) in
+        let most : n ≤ length rs = omega arith in
+        let m = told-moved n (ltb n (length rs)) few most in
+        let e = shown-told c q i mark n (ltb n (length rs)) rs (toldFrom (c .values) left q .history) a few most (sized-for (i .history .memory) (i .history .files) (masterOf (q .address)) (fileOf q) (sized (fileOf q))) in
+        as-shown (e ∙ ap (λ (x : Bool). told (masterOf (q .address)) (fileOf q) x (take n rs)) k) m
+
+-- a repeat: the same records to the same master
+abbrev holding : Core → Areas → Memory → Files → Inner
+holding k a w fs = record { core = k; areas = a; history = record { memory = w; files = fs } }
+
+pub same-master : (m n : Master) → isOf m n ≡ true → m ≡ n
+unfolding isOf
+same-master m n e = ap (λ (k : ℕ). record { 0 = k }) (eqb-true (m .0) (n .0) e)
+
+agrees-names : (r : HistoryReply) (q : Request) → agrees r q ≡ true → (r .master ≡ masterOf (q .address)) × (r .file .0 ≡ fileOf q)
+unfolding agrees
+agrees-names r q e =
+    let u = and-right (isOf (r .master) (masterOf (q .address))) (eqb (r .file .0) (fileOf q) && Bool·beq (r .dump) (dumps q)) e in
+    let m = and-left (isOf (r .master) (masterOf (q .address))) (eqb (r .file .0) (fileOf q) && Bool·beq (r .dump) (dumps q)) e in
+    (same-master (r .master) (masterOf (q .address)) m, eqb-true (r .file .0) (fileOf q) (and-left (eqb (r .file .0) (fileOf q)) (Bool·beq (r .dump) (dumps q)) u))
+
+module _ (c : Config) (l : Latest) (k : Core) (a : Areas) (fs : Files) (mark : Mark) (q : Request)
+    (sized : (g : ℕ) → AllSized (sizeOf (c .values) g) (heldIn fs g)) (function : q .function ≡ 0x04) (plain : acknowledges q ≡ false) where
+  repeat-fine : (r : HistoryReply) → Matches (record { memory = Remembered r; files = fs }) l → r .master ≡ masterOf (q .address) → r .file .0 ≡ fileOf q
+      → Fine c l (holding k a (Remembered r) fs) mark q
+      (historyMade (holding k a (Remembered r) fs) q
+      (record { outcome = Done; chars = historyChars (r .quantity) (r .more) (heldIn fs (r .file .0)); history = record { memory = Remembered r; files = fs } }))
+  unfolding Fine latestAfter historyMade finished
+  repeat-fine r t em ef =
+      let rs = take (r .quantity) (heldIn fs (r .file .0)) in
+      let e =
+      shown-told c q (holding k a (Remembered r) fs) mark (r .quantity) (r .more) (heldIn fs (r .file .0)) (record { memory = Remembered r; files = fs }) function (t .holds .1) (t .holds .0)
+      (rw (← ef) (sized (r .file .0))) in
+      let s : told (masterOf (q .address)) (fileOf q) (acknowledges q) rs ≡ told (r .master) (r .file .0) false rs = rw (← em, ← ef, plain) in
+      as-shown (e ∙ s)
+      (record {
+        moved = λ g. unreleased fs g (released-repeat l (r .master) (r .file .0) rs g);
+        matches = record { latest = refl; holds = t .holds };
+      })
+
+  again-fine : (w : Memory) → Matches (record { memory = w; files = fs }) l
+      → Fine c l (holding k a w fs) mark q (historyMade (holding k a w fs) q (againWhen w (record { memory = w; files = fs }) q))
+  unfolding againWhen
+  again-fine Nothing t = untold-fine c l (holding k a Nothing fs) mark q t NothingAgain (omega arith)
+  again-fine (Remembered r) t =
+      by-cond {A = Told} (λ x. Fine c l (holding k a (Remembered r) fs) mark q (historyMade (holding k a (Remembered r) fs) q x)) (agrees r q)
+      (λ e. let n = agrees-names r q e in repeat-fine r t (n .0) (n .1))
+      (λ e. untold-fine c l (holding k a (Remembered r) fs) mark q t NothingAgain (omega arith))
+
+module _ (c : Config) (l : Latest) (i : Inner) (mark : Mark) (t : Matches (i .history) l)
+    (sized : (g : ℕ) → AllSized (sizeOf (c .values) g) (heldIn (i .history .files) g)) where
+  history-fine : (q : Request) → q .function ≡ 0x04 → Fine c l i mark q (historyMade i q (historyOf (c .files) (c .values) (i .history) q))
+  unfolding historyOf
+  history-fine q a =
+      let P : Told → Type 0 = λ x. Fine c l i mark q (historyMade i q x) in
+      by-cond P (ltb (q .command) 128)
+      (λ e. by-cond P (counts 0 q)
+      (λ e. by-cond P (hasFile (c .files) (fileOf q))
+      (λ e. by-cond P (acknowledges q) (acked-fine c l i mark q t sized a)
+      (λ n. again-fine c l (i .core) (i .areas) (i .history .files) mark q sized a n (i .history .memory) t))
+      (λ e. untold-fine c l i mark q t NotValid (omega arith)))
+      (λ e. untold-fine c l i mark q t WrongCount (omega arith)))
+      (λ e. untold-fine c l i mark q t Unknown (omega arith))
+
+  served-fine : (q : Request) → Fine c l i mark q (served c i q)
+  unfolding served brokenOff refused
+  served-fine q =
+      let P : Made → Type 0 = Fine c l i mark q in
+      by-cond P (breaks (i .core .hold) q) (λ e. refused-fine c l i mark q t (brokenOff (i .core) (i .areas)) (omega arith))
+      (λ e. by-cond P (eqb (q .function) 0x04) (λ a. history-fine q (eqb-true _ _ a))
+      (λ a. by-cond P (initialises q) (initialised-fine c l i mark q t) (keeps-fine c l i mark q t (otherOf c (i .core) (i .areas) q) a)))
+
+  -- ---- any other stretch
+
+  quiet-fine : (q : Request) (o : Answer) (k : Core) (a : Areas) → Fine c l i mark q (quiet o (record { core = k; areas = a; history = i .history }))
+  unfolding Fine quiet sentChars shownFor
+  quiet-fine q o k a = still t refl
+
+  broadcast-fine : (q : Request) (p : Step) → Fine c l i mark q (broadcastMade i p)
+  unfolding broadcastMade
+  broadcast-fine q p = quiet-fine q _ _ _
+
+  framed-fine : (q : Request) → Fine c l i mark q (framed c i q)
+  unfolding framed
+  framed-fine q =
+      let P : Made → Type 0 = Fine c l i mark q in
+      by-cond P (eqb (unitOf (q .address)) (c .unit)) (λ e. served-fine q)
+      (λ e. by-cond P (eqb (unitOf (q .address)) broadcastUnit) (λ e. broadcast-fine q (broadcastOf c (i .core) (i .areas) q)) (λ e. quiet-fine q (Ended OtherUnit) (i .core) (i .areas)))
+
+  judged-fine : (s : List ℕ) (h : Heard) → Moved l (i .history) (shownIn c s h (sentChars mark (judged c i s h .sent))) nothing (judged c i s h .inner .history)
+  unfolding Fine shownIn judged quiet
+  judged-fine s Broken = still t refl
+  judged-fine s Wrong = still t refl
+  judged-fine s (Whole f) = framed-fine (requestIn f s)
+
+-- ---- an event
+
+-- the same, of any event
+abbrev pub FineEvent : Config → Latest → Inner → Mark → Event → Made → Type 0
+FineEvent c l i mark e m = Moved l (i .history) (shownBy c e (sentChars mark (m .sent))) (storedBy e (i .core .clock) (m .answer)) (m .inner .history)
+
+-- a record more at the end of its file: the remembered records stay the oldest
+same-store : (w : Memory) (fs gs : Files) (new : ℕ → List (List ℕ)) → ((g : ℕ) → heldIn gs g ≡ heldIn fs g ++ new g) → Holds w fs
+    → (rememberedAs w fs ≡ rememberedAs w gs) × Holds w gs
+same-store Nothing fs gs new e h = (refl, tt)
+same-store (Remembered t) fs gs new e h =
+    (ap (gave (t .master) (t .file .0)) (sym (ap (take (t .quantity)) (e (t .file .0)) ∙ take-append-le (t .quantity) (heldIn fs (t .file .0)) (new (t .file .0)) (h .0))), (omega (arith, ap length (e (t .file .0)), length-append (heldIn fs (t .file .0)) (new (t .file .0)), h .0), h .1))
+
+module _ (c : Config) (l : Latest) (i : Inner) (mark : Mark) (t : Matches (i .history) l) where
+  store-moved : (f : ℕ) (r : List ℕ) → f < length (i .history .files)
+      → Moved l (i .history) other (λ g. cond (eqb f g) (r ∷ []) []) (record { memory = i .history .memory; files = storeIn (i .history .files) f r })
+  unfolding latestAfter
+  store-moved f r there =
+      let fs = i .history .files in
+      let k : (g : ℕ) → heldIn (storeIn fs f r) g ≡ heldIn fs g ++ cond (eqb f g) (r ∷ []) [] = λ g. held-store fs f g r there in
+      let s = same-store (i .history .memory) fs (storeIn fs f r) (λ g. cond (eqb f g) (r ∷ []) []) k (t .holds) in
+      record {
+        moved = λ g. sym (k g) ∙ ap (λ (x : List (List ℕ)). x ++ heldIn (storeIn fs f r) g) (sym (released-other l g));
+        matches = record { latest = t .latest ∙ s .0; holds = s .1 };
+      }
+
+  store-fine : (f : File) (e : ℕ) (vs : List ℕ) (x : Stored) → (x ≡ Kept → f .0 < length (i .history .files))
+      → FineEvent c l i mark (store f e vs) (storeMade i (f .0) (recordChars (record { event = e; clock = i .core .clock }) vs) x)
+  unfolding storeMade quiet sentChars shownBy storedBy wasKept
+  store-fine f e vs Kept there = store-moved (f .0) (recordChars (record { event = e; clock = i .core .clock }) vs) (there refl)
+  store-fine f e vs Full there = still t refl
+  store-fine f e vs NotEquipped there = still t refl
+  store-fine f e vs WrongValues there = still t refl
+
+  -- an event that is turned away shows nothing, stores nothing and keeps the history
+  unheard-fine : (s : List ℕ) (h : Heard) → shownIn c s h [] ≡ other
+  unfolding shownIn shownFor
+  unheard-fine s Broken = refl
+  unheard-fine s Wrong = refl
+  unheard-fine s (Whole f) = refl
+
+  pub away-fine : (o : Outcome) (e : Event) → Moved l (i .history) (shownBy c e []) (storedBy e (i .core .clock) (Ended o)) (i .history)
+  unfolding shownBy storedBy wasKept
+  away-fine o (stretch room s) = still t (unheard-fine s (heardOf s))
+  away-fine o (elapsed ms) = still t refl
+  away-fine o (setWord n w) = still t refl
+  away-fine o (setValue n v) = still t refl
+  away-fine o (pulses n p) = still t refl
+  away-fine o (store f e vs) = still t refl
+
+  module _ (sized : (g : ℕ) → AllSized (sizeOf (c .values) g) (heldIn (i .history .files) g)) (long : length (i .history .files) ≡ 32) where
+    stored-there : (f : ℕ) (vs : List ℕ) → storedAs (c .files) (c .values) (i .history .files) f vs ≡ Kept → f < length (i .history .files)
+    unfolding hasFile
+    stored-there f vs e =
+        let h = ltb-true f 32 (and-left (ltb f 32) _ (stored-kept (c .files) (c .values) (i .history .files) f vs e .equipped)) in
+        omega arith
+
+    pub made-fine : (e : Event) → FineEvent c l i mark e (makeOf c i e)
+    unfolding makeOf shownBy storedBy quiet sentChars elapsedMade wordMade valueMade localMade
+    made-fine (stretch room s) = judged-fine c l i mark t sized s (heardOf s)
+    made-fine (elapsed ms) = still t refl
+    made-fine (setWord n w) = still t refl
+    made-fine (setValue n v) = still t refl
+    made-fine (pulses n p) = still t refl
+    made-fine (store f e vs) = store-fine f e vs (storedAs (c .files) (c .values) (i .history .files) (f .0) vs) (stored-there (f .0) vs)

@@ -1,0 +1,156 @@
+-- A worked run, so that demand 3 speaks of something: two masters, two records, a damaged request, a repeat, a release. Assumes nothing.
+use Prim.Native.Nat.{ℕ, zero, suc}
+use mathlib.Core.Path.{_≡_, refl}
+use mathlib.Core.Logic.{_⊎_}
+use mathlib.Core.List.{List, [], _∷_, _++_}
+use mathlib.Core.Bool.{Bool, true, _&&_}
+use lib.ListN.{take, set}
+use lib.Dec.{ltb, lit<, lit≤}
+use borrow.Author.Tests.{ltb-true}
+use native.Mathlib.Omega.{arith}
+use Rattle.chars.specs.Put.{part}
+use Rattle.chars.specs.Word.{Characters, word, wordAt}
+use Rattle.chars.specs.Gather.{gather, upFrom}
+use Rattle.checkword.specs.Check.{bitStep, bitSteps, charStep, checkFrom}
+use Rattle.checkword.proofs.Bursts.{one-character}
+use Rattle.model.specs.Frame.{unitOf, masterOf, whole, checked, frameIn, heardOf, requestIn, withCheck, frameChars, headChars, replyChars}
+use Rattle.model.specs.Outcome.{damaged, replyFunction, answerNumber}
+use Rattle.model.specs.Config.{Config, has, within, every, noneIn, fileValid, validOf, hasFile, sizeOf}
+use Rattle.model.specs.State.{heldIn, storeIn, releaseIn, freshCore, freshAreas, freshHistory, freshPort, freshOf}
+use Rattle.model.specs.Scan.{counts}
+use Rattle.model.specs.Control.{isOf, breaks, heldAfter}
+use Rattle.model.specs.Blocks.{dropped, waitsAfter}
+use Rattle.model.specs.Clock.{bcd, clockFits, timeOf, clockAt, clockAfter}
+use Rattle.model.specs.History.{acknowledges, dumps, fileOf, flat, historyChars, releaseFor, mostOf, toldFrom, agrees, againWhen, historyOf, recordChars, storedAs}
+use Rattle.model.specs.Fits.{masterFits, holdFits, writeFits, coreFits, givable, replyFits, memoryFits, fileFits, historyFits, areasFit, portFits, fits}
+use Rattle.model.specs.Step.{Event, stretch, elapsed, store, statusOf, sentAs, answered, quiet, settled, finished, historyMade, served, framed, judged, coreAfter, elapsedMade, storeMade, makeOf}
+use Rattle.model.specs.Port.{portStatus, sentChars, damageMark, markAfter, silentAfter, portAfter}
+use Rattle.model.specs.Run.{short, turnedAway, shows, moves, resultOf, nextOf, Entry, entryOf, afterFrom, traceFrom, after, trace}
+use Rattle.model.specs.Formed.{AllGiven}
+use Rattle.model.specs.Line.{chunks, carried, shownFor, shownIn, shownBy, shown, latestAfter, releasedBy, latestFrom, releasedFrom, wasKept, storedBy, storedIn, latestIn, releasedIn}
+use Rattle.model.specs.Damage.{Good, Damaged, cut, changed}
+use Rattle.model.specs.Demand3.{heldBy, Unseen, Acknowledged}
+use Rattle.model.specs.declared.Outcome.the-variants.{NotWhole, CheckWrong}
+use Rattle.model.specs.declared.Answer.the-variants.{Ended}
+use Rattle.model.proofs.Conditions.{and-left, and-right}
+use Rattle.model.proofs.FrameLaws.{heard-whole}
+use Rattle.model.proofs.Demand3.{demand-3}
+
+-- ---- the run
+
+-- unit 1234 with file 0, whose records have one value: 8 characters
+unfoldable pub unit : Config
+unit = record { unit = 1234; inputs = []; outputs = []; calculations = []; files = 1 ∷ []; values = 1 ∷ []; block = 0 }
+
+-- master 1 and master 2 acknowledge and ask for one record of file 0; master 1 asks again without
+abbrev pub one : List ℕ
+one = 0xD2 ∷ 0x0C ∷ 0x04 ∷ 0x40 ∷ 0x00 ∷ 0x00 ∷ 0x02 ∷ 0x97 ∷ []
+
+abbrev pub two : List ℕ
+two = 0xD2 ∷ 0x14 ∷ 0x04 ∷ 0x40 ∷ 0x00 ∷ 0x00 ∷ 0x22 ∷ 0x95 ∷ []
+
+abbrev pub again : List ℕ
+again = 0xD2 ∷ 0x0C ∷ 0x04 ∷ 0x00 ∷ 0x00 ∷ 0x00 ∷ 0x03 ∷ 0x43 ∷ []
+
+-- two records two seconds apart, and master 1 asks
+abbrev pub before-cut : List Event
+before-cut = store (record { 0 = 0 }) 7 (0x0C0B ∷ []) ∷ elapsed 2000 ∷ store (record { 0 = 0 }) 7 (0x1615 ∷ []) ∷ stretch 520 one ∷ []
+
+-- master 1 asks again; master 2 asks, and master 1, to neither of whom the latest reply went; master 1 asks once more
+abbrev pub after-cut : List Event
+after-cut = stretch 520 again ∷ stretch 520 two ∷ stretch 520 one ∷ stretch 520 one ∷ []
+
+abbrev pub torn : Event
+torn = stretch 520 (take 7 one)
+
+abbrev pub events : List Event
+events = before-cut ++ (torn ∷ after-cut)
+
+-- the records: event, day 1, 00:00:00 and 00:00:02, the value
+abbrev pub first : List ℕ
+first = 7 ∷ 0 ∷ 1 ∷ 0 ∷ 0 ∷ 0 ∷ 11 ∷ 12 ∷ []
+
+abbrev pub second : List ℕ
+second = 7 ∷ 0 ∷ 1 ∷ 0 ∷ 0 ∷ 2 ∷ 21 ∷ 22 ∷ []
+
+unfoldable pub numbers : List Entry → List ℕ
+numbers [] = []
+numbers (x ∷ xs) = answerNumber (x .result .answer) ∷ numbers xs
+
+pub record Worked : Type 0 where
+  pub valid : validOf unit ≡ true
+  pub answers : numbers (trace unit events) ≡ 0 ∷ 0 ∷ 0 ∷ 0 ∷ 1 ∷ 0 ∷ 0 ∷ 0 ∷ 0 ∷ []
+  pub keeps : storedIn (trace unit events) 0 ≡ first ∷ second ∷ []
+  pub releases : releasedIn unit (trace unit events) 0 ≡ first ∷ []
+  pub holds : heldBy (after unit events) 0 ≡ second ∷ []
+  pub last : releasedBy (latestIn unit (trace unit (take 8 events))) (shown unit (entryOf unit (after unit (take 8 events)) (stretch 520 one))) 0
+      ≡ first ∷ []
+  -- one event less, and nothing is released: the latest reply had gone to master 2 when master 1 acknowledged
+  pub waits : releasedIn unit (trace unit (take 8 events)) 0 ≡ []
+  -- after the cut frame the port status reads 56h, and 54h without it; the repeat carries the first record, and more are held
+  pub repeats : resultOf unit (after unit (take 5 events)) (stretch 520 again) .reply
+      ≡ 0xD2 ∷ 0x0C ∷ 0x04 ∷ 0x80 ∷ 0x56 ∷ 9 ∷ 0 ∷ 0x81 ∷ first ++ (0xE7 ∷ 0xFD ∷ [])
+  pub undamaged : take 5 (resultOf unit (after unit (take 4 events)) (stretch 520 again) .reply) ≡ 0xD2 ∷ 0x0C ∷ 0x04 ∷ 0x80 ∷ 0x54 ∷ []
+
+pub worked : Worked
+unfolding
+    unit numbers part word wordAt gather upFrom bitStep bitSteps charStep checkFrom
+    unitOf masterOf whole checked frameIn heardOf requestIn withCheck frameChars headChars replyChars
+    damaged replyFunction has within every noneIn fileValid validOf hasFile sizeOf
+    heldIn storeIn releaseIn freshCore freshAreas freshHistory freshPort freshOf counts isOf breaks heldAfter dropped waitsAfter
+    bcd clockFits timeOf clockAt clockAfter
+    acknowledges dumps fileOf flat historyChars releaseFor mostOf toldFrom agrees againWhen historyOf recordChars storedAs
+    masterFits holdFits writeFits coreFits givable replyFits memoryFits fileFits historyFits areasFit portFits fits
+    statusOf sentAs answered quiet settled finished historyMade served framed judged coreAfter elapsedMade storeMade makeOf
+    portStatus sentChars damageMark markAfter silentAfter portAfter short turnedAway shows moves resultOf nextOf entryOf afterFrom traceFrom
+    chunks carried shownFor shownIn shownBy shown latestAfter releasedBy latestFrom releasedFrom wasKept storedBy storedIn
+worked =
+    record {
+      valid = refl;
+      answers = refl;
+      keeps = refl;
+      releases = refl;
+      holds = refl;
+      last = refl;
+      waits = refl;
+      repeats = refl;
+      undamaged = refl;
+    }
+
+-- ---- the damage is damage: the frame cut by one character, and the frame with one character changed
+
+abbrev small : List ℕ → Bool
+small [] = true
+small (b ∷ s) = ltb b 256 && small s
+
+by-small : (s : List ℕ) → small s ≡ true → Characters s
+by-small [] e i = omega arith
+by-small (b ∷ s) e zero = ltb-true b 256 (and-left (ltb b 256) (small s) e)
+by-small (b ∷ s) e (suc i) = by-small s (and-right (ltb b 256) (small s) e) i
+
+pub good-one : Good one
+unfolding part word wordAt bitStep bitSteps charStep checkFrom whole checked frameIn heardOf
+good-one = record { characters = by-small one refl; head = frameIn one; whole = heard-whole one (frameIn one) refl }
+
+pub cut-one : Damaged (take 7 one)
+cut-one = cut {s = one} {n = 7} good-one (lit< tt)
+
+pub changed-one : Damaged (set one 3 0x60)
+changed-one = changed good-one (by-small (set one 3 0x60) refl) (one-character one 3 0x60 (lit< tt) (λ e. omega arith))
+
+-- ---- and the demand speaks of it
+
+given : AllGiven before-cut
+given = (tt, (tt, (tt, (by-small one refl, tt))))
+
+pub cut-unseen : Unseen unit before-cut 520 (take 7 one) after-cut
+cut-unseen = demand-3 unit .damage before-cut 520 cut-one after-cut
+
+pub cut-ends : (resultOf unit (after unit before-cut) torn .answer ≡ Ended NotWhole) ⊎ (resultOf unit (after unit before-cut) torn .answer ≡ Ended CheckWrong)
+cut-ends = cut-unseen .ends .damaged (lit≤ tt) (worked .valid) given
+
+-- the last event released the first record, so master 1 had acknowledged it, to whom the latest reply had carried it
+pub last-acknowledged : Acknowledged unit (latestIn unit (trace unit (take 8 events))) (entryOf unit (after unit (take 8 events)) (stretch 520 one)) 0
+last-acknowledged =
+    demand-3 unit .events (take 8 events) (stretch 520 one) 0 .release
+    (λ e. let w = worked .last in let z : _≡_ {A = ℕ} 0 1 = cc in omega arith)
