@@ -1,0 +1,68 @@
+-- What the events on points and 20h/11h come to, case by case.
+-- Assumes nothing.
+use mathlib.Core.Path.{_≡_, refl}
+use Prim.Native.Nat.{ℕ, _+_, _%_}
+use native.Mathlib.Omega.{arith}
+use mathlib.Core.List.{List, [], _∷_}
+use mathlib.Core.Bool.{true, false}
+use borrow.Author.Tests.{eq-eqb, ne-eqb}
+use lib.ListN.{length, getD, set}
+use Rattle.model.specs.Frame.{Request}
+use Rattle.model.specs.Config.{has, accumulator, hasCalculation}
+use Rattle.model.specs.Scan.{counts}
+use Rattle.model.specs.Inputs.{changes, unchanged, hasAccumulator, setWordOf, pulsesOf, resetCountOf}
+use Rattle.model.specs.Calculations.{setValueOf}
+use Rattle.model.specs.declared.Outcome.the-variants.{NotValid, WrongCount}
+
+-- ---- events
+
+module _ (table words : List ℕ) (n v : ℕ) where
+  pub word-set : has table n ≡ true → accumulator n ≡ false → setWordOf table words n v ≡ changes [] (set words n v)
+  unfolding setWordOf
+  word-set e f = simp (e, f)
+
+  pub word-other : has table n ≡ true → accumulator n ≡ true → setWordOf table words n v ≡ unchanged NotValid words
+  unfolding setWordOf
+  word-other e f = simp (e, f)
+
+  pub word-missing : has table n ≡ false → setWordOf table words n v ≡ unchanged NotValid words
+  unfolding setWordOf
+  word-missing e = simp e
+
+  pub pulses-added : hasAccumulator table n ≡ true → pulsesOf table words n v ≡ changes [] (set words n ((getD words n 0 + v) % 65536))
+  unfolding pulsesOf
+  pulses-added e = simp e
+
+  pub pulses-missing : hasAccumulator table n ≡ false → pulsesOf table words n v ≡ unchanged NotValid words
+  unfolding pulsesOf
+  pulses-missing e = simp e
+
+  pub value-set : hasCalculation table n ≡ true → setValueOf table words n v ≡ changes [] (set words n v)
+  unfolding setValueOf
+  value-set e = simp e
+
+  pub value-missing : hasCalculation table n ≡ false → setValueOf table words n v ≡ unchanged NotValid words
+  unfolding setValueOf
+  value-missing e = simp e
+
+-- ---- 20h/11h
+
+-- one number is all the data
+pub only : (s : List ℕ) → length s ≡ 1 → s ≡ getD s 0 0 ∷ []
+only [] h = absurd (omega arith)
+only (x ∷ []) h = refl
+only (x ∷ y ∷ s) h = absurd (omega arith)
+
+module _ (table words : List ℕ) (q : Request) where
+  pub reset-miscounted : (length (q .body) ≡ 1 → ⊥) → resetCountOf table words q ≡ unchanged WrongCount words
+  unfolding resetCountOf counts
+  reset-miscounted h = simp (ne-eqb _ _ h)
+
+  pub reset-missing : length (q .body) ≡ 1 → hasAccumulator table (getD (q .body) 0 0) ≡ false → resetCountOf table words q ≡ unchanged NotValid words
+  unfolding resetCountOf counts
+  reset-missing h e = simp (eq-eqb _ _ h, e)
+
+  pub reset-done : length (q .body) ≡ 1 → hasAccumulator table (getD (q .body) 0 0) ≡ true
+      → resetCountOf table words q ≡ changes (q .body) (set words (getD (q .body) 0 0) 0)
+  unfolding resetCountOf counts
+  reset-done h e = simp (eq-eqb _ _ h, e)

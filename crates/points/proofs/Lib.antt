@@ -1,0 +1,9 @@
+-- The laws that the proofs of this crate and of its users cite.
+pub mod NumberLaws
+pub mod AnswerLaws
+pub mod ChangeLaws
+pub mod InputLaws
+pub mod TableLaws
+pub mod CalculationLaws
+pub mod Fits
+pub mod Unique

@@ -1,0 +1,46 @@
+-- `points::changes::set_word` meets its contract. Assumes nothing.
+use mathlib.Core.Path.{refl, sym, _∙_}
+use Rattle.points.proofs.AnswerLaws.{sets}
+use Rattle.points.proofs.ChangeLaws.{word-set, word-other, word-missing}
+use borrow.Author.Needs.{needs}
+use Rattle.points.proofs.changes.set_word.Statement.{statement}
+use Rattle.points.proofs.changes.set_word.Tie as tie
+
+has-input-requires : tie.Need-has-input-requires
+has-input-requires c κs = search needs
+
+is-accumulator-requires : tie.Need-is-accumulator-requires
+is-accumulator-requires c κs = search needs
+
+returns : tie.Need-returns
+returns c =
+    sets (word-other _ _ _ _ (sym (c .before .before .before .has-input .ensures) ∙ c .before .before .if1 .taken) (sym (c .before .is-accumulator .ensures) ∙ c .if2 .taken)) refl refl
+
+cast-n : tie.Need-cast-n
+cast-n c = search needs
+
+mul-words : tie.Need-mul-words
+mul-words c = search needs
+
+element-write-words : tie.Need-element-write-words
+element-write-words c = search needs
+
+returns-2 : tie.Need-returns-2
+returns-2 c =
+    sets (word-set _ _ _ _ (sym (c .before .before .before .before .has-input .ensures) ∙ c .before .before .before .if1 .taken) (sym (c .before .before .is-accumulator .ensures) ∙ c .before .if2 .left)) refl refl
+
+returns-3 : tie.Need-returns-3
+returns-3 c = sets (word-missing _ _ _ _ (sym (c .before .has-input .ensures) ∙ c .if1 .left)) refl refl
+
+pub set-word-spec : {M : Type 1} → statement M
+set-word-spec =
+    tie.close
+    (tie.spec
+    has-input-requires
+    is-accumulator-requires
+    returns
+    cast-n
+    mul-words
+    element-write-words
+    returns-2
+    returns-3)
