@@ -1,0 +1,21 @@
+-- `blocks::base_of` meets its contract.
+use native.Mathlib.Omega.{arith}
+use borrow.Author.Tests.{eq-eqb, ne-eqb}
+use Rattle.model.specs.Blocks.{baseOf}
+use Rattle.blocks.proofs.base_of.Statement.{statement}
+use Rattle.blocks.proofs.base_of.Tie as tie
+
+returns : tie.Need-returns
+unfolding baseOf
+returns c = (simp (eq-eqb _ _ (c .match .keys1)), omega arith)
+
+returns-2 : tie.Need-returns-2
+unfolding baseOf
+returns-2 c = (rw (c .match .keys2), omega arith)
+
+returns-3 : tie.Need-returns-3
+unfolding baseOf
+returns-3 c = (simp (ne-eqb _ _ (c .match .rest .0 .1), ne-eqb _ _ (c .match .rest .1)), omega arith)
+
+pub base-of-spec : {M : Type 1} → statement M
+base-of-spec = tie.close (tie.spec returns returns-2 returns-3)
