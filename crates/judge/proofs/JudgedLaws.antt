@@ -1,0 +1,180 @@
+-- Laws of judging: a test that a loop has every number of a run pass, one by one, and what stands in for the records.
+-- Assumes nothing.
+use mathlib.Core.Path.{_≡_, refl, sym, ap, _∙_}
+use Prim.Native.Nat.{ℕ, zero, suc, _+_, _<_, _≤_}
+use native.Mathlib.Numerals.{add-one}
+use native.Mathlib.Omega.{arith}
+use mathlib.Core.List.{List, [], _∷_, _++_}
+use mathlib.Core.Bool.{Bool, true, false, _&&_}
+use lib.ListN.{length, getD, length-replicate, drop, length-drop, List·getD-eq-default}
+use lib.Seq.{take-all}
+use lib.Dec.{eqb, leb, ltb}
+use borrow.Author.Tests.{ltb-true, ltb-false, lt-ltb, le-leb, lt-leb, eq-eqb, ne-eqb}
+use Rattle.chars.specs.Put.{part}
+use Rattle.chars.specs.Gather.{upFrom}
+use Rattle.chars.proofs.PutLaws.{part-none, part-more}
+use Rattle.chars.proofs.GatherLaws.{up-none, up-more}
+use Rattle.model.specs.Config.{Config, has, within, hasFile, every, noneIn, fileValid, validOf}
+use Rattle.model.specs.State.{Areas, Files, heldIn}
+use Rattle.model.specs.Fits.{fits, areasFit, coreFits, portFits, historyFits, memoryFits, replyFits, fileFits}
+use Rattle.model.specs.declared.Core.{Core}
+use Rattle.model.specs.declared.HistoryReply.{HistoryReply}
+use Rattle.model.specs.declared.Memory.{Memory}
+use Rattle.model.specs.declared.Memory.the-variants.{Nothing, Remembered}
+use Rattle.model.specs.declared.Port.{Port}
+use Rattle.model.proofs.Conditions.{by-bool, every-append, and-left}
+use Rattle.judge.specs.Judged.{filesBy, keptBy, fitsBy}
+
+-- ---- tests in a row: the answer x where the first was passed, and where it was not
+
+module _ {a x : Bool} where
+  pub and-on : {b : Bool} → a ≡ true → x ≡ b → x ≡ (a && b)
+  and-on p q = rw p q
+
+  pub and-off : (b : Bool) → a ≡ false → x ≡ false → x ≡ (a && b)
+  and-off b p q = rw p q
+
+-- ---- a flag that is true as long as every number passed
+
+and-true : (b : Bool) → (b && true) ≡ b
+and-true true = refl
+and-true false = refl
+
+and-false : (b : Bool) → (b && false) ≡ false
+and-false true = refl
+and-false false = refl
+
+every-end : (f : ℕ → Bool) (ns : List ℕ) (n : ℕ) → every f (ns ++ (n ∷ [])) ≡ (every f ns && f n)
+unfolding every
+every-end f ns n = every-append f ns (n ∷ []) ∙ ap (λ (b : Bool). every f ns && b) (and-true (f n))
+
+pub every-start : (f : ℕ → Bool) → true ≡ every f (upFrom 0 0)
+unfolding every
+every-start f = rw up-none
+
+every-next : (f : ℕ → Bool) (i : ℕ) → every f (upFrom 0 (i + 1)) ≡ (every f (upFrom 0 i) && f i)
+every-next f i = let e : 0 + i ≡ i = omega arith in rw up-more (every-end f (upFrom 0 i) (0 + i) ∙ rw e)
+
+module _ (f : ℕ → Bool) (i : ℕ) {b : Bool} where
+  pub every-passed : b ≡ every f (upFrom 0 i) → f i ≡ true → b ≡ every f (upFrom 0 (i + 1))
+  every-passed e p = rw (every-next, p, and-true) e
+
+  pub every-failed : b ≡ false → f i ≡ false → b ≡ every f (upFrom 0 (i + 1))
+  every-failed e p = rw (every-next, p, and-false) e
+
+pub every-done : (f : ℕ → Bool) {b : Bool} {i n : ℕ} → b ≡ every f (upFrom 0 i) → i ≡ n → b ≡ every f (upFrom 0 n)
+every-done f e q = rw q at e
+
+-- two tests that agree on each number of the run
+every-same : (f g : ℕ → Bool) (n : ℕ) → ((k : ℕ) → k < n → f k ≡ g k) → every f (upFrom 0 n) ≡ every g (upFrom 0 n)
+every-same f g zero h = sym (every-start f) ∙ every-start g
+every-same f g (suc n) h =
+    rw (← add-one, every-next, every-next, every-same f g n (λ k l. h k (omega arith)), h n (omega arith))
+
+-- ---- none of a run of a table is equipped
+
+part-clipped : (xs : List ℕ) (low i : ℕ) → length xs ≤ low + i → part xs low (i + 1) ≡ part xs low i
+unfolding part
+part-clipped xs low i h =
+    let l = length-drop low xs in
+    take-all (i + 1) (drop low xs) (omega (arith, l)) ∙ sym (take-all i (drop low xs) (omega (arith, l)))
+
+pub none-start : (table : List ℕ) (low : ℕ) → true ≡ noneIn table low 0
+unfolding noneIn every
+none-start table low = rw part-none
+
+-- past the end a table reads 0, which is not equipped
+none-next : (table : List ℕ) (low i : ℕ) → noneIn table low (i + 1) ≡ (noneIn table low i && eqb (getD table (low + i) 0) 0)
+unfolding noneIn
+none-next table low i =
+    by-bool (ltb (low + i) (length table))
+    (λ e. let h = ltb-true (low + i) (length table) e in rw (part-more table low i h) (every-end (λ x. eqb x 0) (part table low i) (getD table (low + i) 0)))
+    (λ e. let h = ltb-false (low + i) (length table) e in
+    rw (part-clipped table low i h, List·getD-eq-default table 0 {n = low + i} h) (sym (and-true _)))
+
+module _ (table : List ℕ) (low i : ℕ) {b : Bool} where
+  pub none-passed : b ≡ noneIn table low i → eqb (getD table (low + i) 0) 0 ≡ true → b ≡ noneIn table low (i + 1)
+  none-passed e p = rw (none-next, p, and-true) e
+
+  pub none-failed : b ≡ false → eqb (getD table (low + i) 0) 0 ≡ false → b ≡ noneIn table low (i + 1)
+  none-failed e p = rw (none-next, p, and-false) e
+
+-- ---- what stands in for the records
+
+pub held-by : (counts : List ℕ) (f : ℕ) → length (heldIn (filesBy counts) f) ≡ getD counts f 0
+unfolding heldIn filesBy
+held-by [] f = refl
+held-by (n ∷ counts) zero = length-replicate n []
+held-by (n ∷ counts) (suc f) = held-by counts f
+
+-- ---- a file, by its tables
+
+zero-leb : (n : ℕ) → leb n 0 ≡ eqb n 0
+zero-leb zero = refl
+zero-leb (suc n) = let e : suc n ≡ 0 → ⊥ = λ q. omega arith in lt-leb (suc n) 0 (omega arith) ∙ sym (ne-eqb (suc n) 0 e)
+
+module _ (c : Config) {files : List ℕ} (e : c .files ≡ files) where
+  pub file-passed : (f : ℕ) → getD files f 0 ≡ 0 → fileValid c f ≡ true
+  unfolding fileValid has
+  file-passed f h = rw (e, eq-eqb _ _ h)
+
+  pub file-empty : (counts : List ℕ) (f : ℕ) → getD files f 0 ≡ 0 → fileFits c (filesBy counts) f ≡ eqb (getD counts f 0) 0
+  unfolding fileFits hasFile has
+  file-empty counts f h = rw (held-by, e, eq-eqb _ _ h, and-false) (zero-leb (getD counts f 0))
+
+  pub file-room : (counts : List ℕ) (f : ℕ) → f < 32 → (getD files f 0 ≡ 0 → ⊥) → fileFits c (filesBy counts) f ≡ leb (getD counts f 0) 32
+  unfolding fileFits hasFile has
+  file-room counts f l h = rw (held-by, e, ne-eqb _ _ h, lt-ltb _ _ l)
+
+  module _ {values : List ℕ} (v : c .values ≡ values) (f : ℕ) (h : getD files f 0 ≡ 0 → ⊥) where
+    pub file-ranged : 1 ≤ getD values f 0 → fileValid c f ≡ leb (getD values f 0) 16
+    unfolding fileValid has within
+    file-ranged l = rw (e, v, ne-eqb _ _ h, le-leb _ _ l)
+
+    pub file-valueless : getD values f 0 < 1 → fileValid c f ≡ false
+    unfolding fileValid has within
+    file-valueless l = rw (e, v, ne-eqb _ _ h, lt-leb _ _ l)
+
+-- an equipped file is one of 32
+pub file-low : (files : List ℕ) (f : ℕ) → hasFile files f ≡ true → f < 32
+unfolding hasFile
+file-low files f e = ltb-true f 32 (and-left (ltb f 32) (has files f) e)
+
+-- fits asks of the files only how many records they hold
+module _ (c : Config) (fs gs : Files) (same : (f : ℕ) → f < 32 → length (heldIn fs f) ≡ length (heldIn gs f)) where
+  file-same : (f : ℕ) → f < 32 → fileFits c fs f ≡ fileFits c gs f
+  unfolding fileFits
+  file-same f h = rw (same f h)
+
+  reply-same : (t : HistoryReply) → replyFits c fs t ≡ replyFits c gs t
+  unfolding replyFits
+  reply-same t =
+      by-bool (hasFile (c .files) (t .file .0))
+      (λ e. rw (same (t .file .0) (file-low (c .files) (t .file .0) e)))
+      (λ e. rw e)
+
+  memory-same : (m : Memory) → memoryFits c fs m ≡ memoryFits c gs m
+  unfolding memoryFits
+  memory-same Nothing = refl
+  memory-same (Remembered t) = reply-same t
+
+  history-same : (m : Memory) → historyFits c (record { memory = m; files = fs }) ≡ historyFits c (record { memory = m; files = gs })
+  unfolding historyFits
+  history-same m = rw (every-same (fileFits c fs) (fileFits c gs) 32 file-same, memory-same m)
+
+-- the parts of the judgement, in their order
+pub fits-parts : (c : Config) (lent : ℕ) (counts : List ℕ) (core : Core) (memory : Memory) (port : Port)
+    → fitsBy c lent counts core memory port
+    ≡ (validOf c && (portFits port && (coreFits c core && (eqb lent (c .block) && historyFits c (record { memory = memory; files = filesBy counts })))))
+unfolding fitsBy keptBy fits areasFit
+fits-parts c lent counts core memory port = rw (length-replicate {A = ℕ} lent 0)
+
+-- judged by the counts, a unit that holds so many records is judged as by its records
+pub fits-by : (c : Config) (lent : ℕ) (counts : List ℕ) (core : Core) (memory : Memory) (port : Port) (areas : Areas) (fs : Files)
+    → length (areas .block) ≡ lent
+    → ((f : ℕ) → f < 32 → length (heldIn fs f) ≡ getD counts f 0)
+    → fitsBy c lent counts core memory port
+    ≡ fits c (record { inner = record { core = core; areas = areas; history = record { memory = memory; files = fs } }; port = port })
+unfolding fits areasFit
+fits-by c lent counts core memory port areas fs e same =
+    rw (fits-parts, e, history-same c fs (filesBy counts) (λ f h. same f h ∙ sym (held-by counts f)) memory)

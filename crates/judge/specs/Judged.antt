@@ -1,0 +1,36 @@
+-- A unit judged by what is lent: its tables, and in place of its records how many each file holds.
+use Prim.Native.Nat.{ℕ}
+use mathlib.Core.List.{List, [], map}
+use mathlib.Core.Bool.{Bool}
+use lib.ListN.{replicate}
+use Rattle.model.specs.Config.{Config}
+use Rattle.model.specs.State.{Files, State}
+use Rattle.model.specs.Fits.{fits}
+use Rattle.model.specs.declared.Core.{Core}
+use Rattle.model.specs.declared.Memory.{Memory}
+use Rattle.model.specs.declared.Port.{Port}
+
+-- a configuration from its parts, in the order in which they are lent
+abbrev pub configOf : ℕ → ℕ → List ℕ → List ℕ → List ℕ → List ℕ → List ℕ → Config
+configOf unit length inputs outputs calculations files values =
+    record { unit = unit; inputs = inputs; outputs = outputs; calculations = calculations; files = files; values = values; block = length }
+
+-- files that hold as many records as counted, each without a character
+unfoldable pub filesBy : List ℕ → Files
+filesBy counts = map (λ n. replicate n []) counts
+
+-- a kept state with a block of that length and as many records as counted: what else it holds, fits never asks
+unfoldable pub keptBy : ℕ → List ℕ → Core → Memory → Port → State
+keptBy lent counts core memory port =
+    record {
+      inner = record {
+        core = core;
+        areas = record { words = []; values = []; fixed = []; block = replicate lent 0 };
+        history = record { memory = memory; files = filesBy counts };
+      };
+      port = port;
+    }
+
+-- fits, of a unit of which only the length of the block and the numbers of records are at hand
+unfoldable pub fitsBy : Config → ℕ → List ℕ → Core → Memory → Port → Bool
+fitsBy c lent counts core memory port = fits c (keptBy lent counts core memory port)
