@@ -1,0 +1,106 @@
+-- A run of calls of the proved entries gives the state and the trace that the definition gives. Assumes nothing.
+use mathlib.Core.Path.{_≡_, refl, sym, ap, _∙_}
+use Prim.Native.Nat.{ℕ, _≤_}
+use mathlib.Core.List.{List, [], _∷_}
+use mathlib.Core.Bool.{Bool, true, false, cond}
+use lib.ListN.{length, take}
+use native.Mathlib.Omega.{arith}
+use Rattle.chars.specs.Put.{put}
+use Rattle.chars.proofs.PutLaws.{take-put-front}
+use Rattle.model.specs.Config.{Config}
+use Rattle.model.proofs.Conditions.{by-cond}
+use Rattle.model.specs.State.{Inner, State}
+use Rattle.model.specs.Fits.{fits}
+use Rattle.model.specs.Step.{
+  Event,
+  stretch,
+  elapsed,
+  setWord,
+  setValue,
+  pulses,
+  store,
+  Made,
+  quiet,
+  elapsedMade,
+  localMade,
+  wordMade,
+  valueMade,
+  storeMade,
+  makeOf,
+}
+use Rattle.model.specs.Port.{sentChars}
+use Rattle.model.specs.Run.{Result, Entry, short, turnedAway, shows, resultOf, nextOf, entryOf, afterFrom, traceFrom}
+use Rattle.model.specs.declared.Stored.{Stored}
+use Rattle.model.specs.declared.Stored.the-variants.{Kept as KeptRecord, Full, NotEquipped, WrongValues}
+use Rattle.model.specs.declared.Answer.{Answer}
+use Rattle.model.specs.declared.Port.{Port}
+use Rattle.model.specs.declared.Action.the-variants.{Rest}
+use Rattle.unit.specs.Kept.{Kept, stateOf}
+use Rattle.unit.specs.Heed.{Heeds}
+use Rattle.unit.specs.Turn.{Turns}
+use Rattle.unit.specs.Calls.{Local, shownBy, answeredBy, Calls, none, heard, heeded}
+use Rattle.unit.specs.declared.line.Turn.{Turn}
+
+-- what the entries of a trace show
+unfoldable pub results : List Entry → List Result
+results [] = []
+results (x ∷ xs) = x .result ∷ results xs
+
+-- the state after the calls is the definition's
+pub calls-after : (c : Config) {k l : Kept} {es : List Event} {xs : List Result} → Calls c k es xs l → stateOf c l ≡ afterFrom c (stateOf c k) es
+unfolding afterFrom
+calls-after c none = refl
+calls-after c (heard {es = es} t cs) = calls-after c cs ∙ ap (λ (s : State). afterFrom c s es) (t .next)
+calls-after c (heeded {es = es} n h cs) = calls-after c cs ∙ ap (λ (s : State). afterFrom c s es) (h .next)
+
+-- ---- what is shown
+
+-- the reply is the front of the buffer
+shown-turn : (c : Config) {k l : Kept} {s entry exit : List ℕ} {r : Turn} → Turns c s k l entry exit r
+    → shownBy r exit ≡ resultOf c (stateOf c k) (stretch (length entry) s)
+shown-turn c {k} {l} {s} {entry} {exit} {r} t =
+    let x = resultOf c (stateOf c k) (stretch (length entry) s) in
+    let g : length (x .reply) ≤ length entry = omega (arith, t .counted, t .inside) in
+    let e : take (r .sent) exit ≡ x .reply = rw (t .counted, t .written) (take-put-front entry (x .reply) g) in
+    λ i. record { answer = t .answered i; action = t .acted i; reply = e i }
+
+-- an event that is no stretch operates and sends nothing
+pub record Still (x : Result) : Type 0 where
+  pub action : x .action ≡ Rest
+  pub reply : x .reply ≡ []
+
+still-stored : (p : Port) (i : Inner) (f : ℕ) (r : List ℕ) (x : Stored) → Still (shows p (storeMade i f r x))
+unfolding shows storeMade quiet sentChars
+still-stored p i f r KeptRecord = record { action = refl; reply = refl }
+still-stored p i f r Full = record { action = refl; reply = refl }
+still-stored p i f r NotEquipped = record { action = refl; reply = refl }
+still-stored p i f r WrongValues = record { action = refl; reply = refl }
+
+still-shown : (c : Config) (s : State) (e : Event) → Local e → Still (shows (s .port) (makeOf c (s .inner) e))
+unfolding Local shows makeOf elapsedMade wordMade valueMade localMade quiet sentChars
+still-shown c s (stretch room t) n = absurd (n room t refl)
+still-shown c s (elapsed ms) n = record { action = refl; reply = refl }
+still-shown c s (setWord i w) n = record { action = refl; reply = refl }
+still-shown c s (setValue i v) n = record { action = refl; reply = refl }
+still-shown c s (pulses i p) n = record { action = refl; reply = refl }
+still-shown c s (store f t vs) n = still-stored (s .port) (s .inner) (f .0) _ _
+
+still-result : (c : Config) (s : State) (e : Event) → Local e → Still (resultOf c s e)
+unfolding resultOf turnedAway
+still-result c s e n =
+    by-cond Still (short e) (λ _. record { action = refl; reply = refl })
+    (λ _. by-cond Still (fits c s) (λ _. still-shown c s e n) (λ _. record { action = refl; reply = refl }))
+
+shown-heed : (c : Config) {k l : Kept} {e : Event} {a : Answer} → Local e → Heeds c e k l a → answeredBy a ≡ resultOf c (stateOf c k) e
+shown-heed c {k} {l} {e} n h =
+    let t = still-result c (stateOf c k) e n in
+    λ i. record { answer = h .answered i; action = sym (t .action) i; reply = sym (t .reply) i }
+
+-- what the calls showed is what the definition's trace shows
+pub calls-trace : (c : Config) {k l : Kept} {es : List Event} {xs : List Result} → Calls c k es xs l → xs ≡ results (traceFrom c (stateOf c k) es)
+unfolding results traceFrom entryOf
+calls-trace c none = refl
+calls-trace c (heard {es = es} t cs) =
+    λ i. shown-turn c t i ∷ (calls-trace c cs ∙ ap (λ (s : State). results (traceFrom c s es)) (t .next)) i
+calls-trace c (heeded {es = es} n h cs) =
+    λ i. shown-heed c n h i ∷ (calls-trace c cs ∙ ap (λ (s : State). results (traceFrom c s es)) (h .next)) i

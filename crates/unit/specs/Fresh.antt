@@ -1,0 +1,13 @@
+-- What is lent to a fresh unit.
+use mathlib.Core.Path.{_≡_}
+use Prim.Native.Nat.{ℕ}
+use mathlib.Core.List.{List}
+use lib.ListN.{replicate}
+
+-- every point, table, block and count is 0
+pub record Cleared (long : ℕ) (ws rs fx bl ns : List ℕ) : Type 0 where
+  pub words : ws ≡ replicate 256 0
+  pub results : rs ≡ replicate 128 0
+  pub fixed : fx ≡ replicate 528 0
+  pub block : bl ≡ replicate long 0
+  pub counts : ns ≡ replicate 32 0
