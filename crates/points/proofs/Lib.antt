@@ -2,8 +2,5 @@
 pub mod NumberLaws
 pub mod AnswerLaws
 pub mod ChangeLaws
-pub mod InputLaws
-pub mod TableLaws
-pub mod CalculationLaws
 pub mod Fits
 pub mod Unique

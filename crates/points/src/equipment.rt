@@ -4,10 +4,7 @@ use model::Input;
 use model::Outcome;
 use model::SpecialCalculation;
 ghost use mathlib.Core.Path.{_≡_};
-ghost use Prim.Native.Nat.{_+_, _<_, _≤_};
-ghost use lib.ListN.{length, getD};
-ghost use Rattle.chars.specs.Put.{put};
-ghost use Rattle.chars.specs.Word.{value};
+ghost use lib.ListN.{getD};
 ghost use Rattle.model.specs.Config.{has, accumulator, hasCalculation};
 ghost use Rattle.points.specs.Answer.{noData};
 
@@ -46,23 +43,4 @@ pub fn has_calculation(table: &[u8; 256], number: SpecialCalculation) -> bool
 {
     let n = number.0 as usize;
     if n < 128 { table[n] != 0 } else { false }
-}
-
-pub fn value_of(values: &[u32; 128], number: SpecialCalculation) -> u32
-    requires { ⌜ number .0 < 128 ⌝ }
-    ensures { λ r. ⌜ r ≡ getD (now (values .entry)) (number .0) 0 ⌝ }
-{
-    let n = number.0 as usize;
-    values[n]
-}
-
-// The caller knows that the value fits: this stands in inner loops.
-pub fn put_value(b: &mut [u8], at: usize, v: u32)
-    requires { ⌜ at + 4 ≤ length (now b) ⌝ }
-    ensures { λ _. ⌜ now (b .exit) ≡ put (now (b .entry)) at (value v) ⌝ }
-{
-    b[at] = (v % 256) as u8;
-    b[at + 1] = (v / 256 % 256) as u8;
-    b[at + 2] = (v / 65536 % 256) as u8;
-    b[at + 3] = (v / 16777216) as u8;
 }

@@ -1,14 +1,12 @@
-// The points of the unit: what scans send of inputs and calculations, and what events and 20h/11h change in them.
-mod calculation_scan;
+// The points of the unit: which are equipped and what they hold, and what events and 20h/11h change in them.
 mod changes;
 mod equipment;
-mod input_scan;
-mod table_scan;
 
-pub use calculation_scan::calculations;
 pub use changes::pulses;
 pub use changes::reset_count;
 pub use changes::set_value;
 pub use changes::set_word;
-pub use input_scan::inputs;
-pub use table_scan::tables;
+pub use equipment::has_calculation;
+pub use equipment::has_input;
+pub use equipment::refused;
+pub use equipment::word_of;

@@ -50,7 +50,9 @@ use Rattle.model.specs.declared.Memory.the-variants.{Nothing, Remembered}
 use Rattle.model.specs.declared.HistoryReply.{HistoryReply}
 use Rattle.model.specs.declared.Table.{Table}
 use Rattle.model.proofs.Conditions.{by-bool, by-cond, false-true, and-left, and-right, every-upFrom}
-use Rattle.points.proofs.Fits.{inputs-fit, tables-fit, calculations-fit}
+use Rattle.inputs.proofs.Fits.{inputs-fit}
+use Rattle.tables.proofs.Fits.{tables-fit}
+use Rattle.calculations.proofs.Fits.{calculations-fit}
 use Rattle.history.specs.Layout.{slot, baseOf, held, recordsIn, filesIn}
 use Rattle.history.specs.Tell.{cut, toldOn}
 use Rattle.history.proofs.HeldLaws.{take-held, flat-most}

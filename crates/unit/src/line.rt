@@ -356,12 +356,12 @@ fn act<'a>(
     let function = frame.function;
     match function {
         0x00 => scanned(
-            points::inputs(inputs, words, frame, body, buffer),
+            inputs::scan(inputs, words, frame, body, buffer),
             core,
             memory,
         ),
         0x03 => scanned(
-            points::calculations(calculations, results, frame, body, buffer),
+            calculations::scan(calculations, results, frame, body, buffer),
             core,
             memory,
         ),
@@ -370,7 +370,7 @@ fn act<'a>(
             core,
         ),
         0x0A => scanned(
-            points::tables(inputs, fixed, words, frame, body, buffer),
+            tables::scan(inputs, fixed, words, frame, body, buffer),
             core,
             memory,
         ),

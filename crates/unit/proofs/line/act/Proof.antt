@@ -36,14 +36,14 @@ returns c =
     let z = step-broken cfg i q b in
     acted-still (alone-stays i _ z) (acts-broken i z refl (c .refused .ensures ∙ rw (c .before .with-hold .ensures)) refl)
 
-inputs-requires : tie.Need-inputs-requires
-inputs-requires c κs = search needs
+scan-requires : tie.Need-scan-requires
+scan-requires c κs = search needs
 
 scanned-requires : tie.Need-scanned-requires
 scanned-requires c κs = search needs
 
-calculations-requires : tie.Need-calculations-requires
-calculations-requires c κs = search needs
+scan-requires-2 : tie.Need-scan-requires-2
+scan-requires-2 c κs = search needs
 
 scanned-requires-2 : tie.Need-scanned-requires-2
 scanned-requires-2 c κs = search needs
@@ -54,8 +54,8 @@ serve-requires c κs = search needs
 told-requires : tie.Need-told-requires
 told-requires c κs = search needs
 
-tables-requires : tie.Need-tables-requires
-tables-requires c κs = search needs
+scan-requires-3 : tie.Need-scan-requires-3
+scan-requires-3 c κs = search needs
 
 scanned-requires-3 : tie.Need-scanned-requires-3
 scanned-requires-3 c κs = search needs
@@ -88,7 +88,7 @@ returns-2 c =
     let fs = filesIn (s .args .values .now) (s .args .area .now) (s .args .counts .now) in
     let i = innerOf (s .args .core) (areasOf (s .args .words .now) (s .args .results .now) (s .args .fixed .now) (s .args .block .now)) (s .args .memory) fs in
     let z = step-inputs cfg i q b (c .before .before .before .before .before .before .match .keys1) in
-    acted-still (alone-stays i _ z) (acts-scan i _ (inputs-tame _ _ q) z (fills-as (sym (in-room _ _ (s .pre .0))) (c .before .before .before .inputs .ensures)) (c .scanned .ensures) refl)
+    acted-still (alone-stays i _ z) (acts-scan i _ (inputs-tame _ _ q) z (fills-as (sym (in-room _ _ (s .pre .0))) (c .before .before .before .scan .ensures)) (c .scanned .ensures) refl)
 
 same-length-2 : tie.Need-same-length-2
 same-length-2 c = search needs
@@ -103,7 +103,7 @@ returns-3 c =
     let fs = filesIn (s .args .values .now) (s .args .area .now) (s .args .counts .now) in
     let i = innerOf (s .args .core) (areasOf (s .args .words .now) (s .args .results .now) (s .args .fixed .now) (s .args .block .now)) (s .args .memory) fs in
     let z = step-calculations cfg i q b (c .before .before .before .before .before .match .keys2) in
-    acted-still (alone-stays i _ z) (acts-scan i _ (calculations-tame _ _ q) z (fills-as (sym (in-room _ _ (s .pre .0))) (c .before .before .before .calculations .ensures)) (c .scanned2 .ensures) refl)
+    acted-still (alone-stays i _ z) (acts-scan i _ (calculations-tame _ _ q) z (fills-as (sym (in-room _ _ (s .pre .0))) (c .before .before .before .scan2 .ensures)) (c .scanned2 .ensures) refl)
 
 same-length-3 : tie.Need-same-length-3
 same-length-3 c = search needs
@@ -132,7 +132,7 @@ returns-5 c =
     let fs = filesIn (s .args .values .now) (s .args .area .now) (s .args .counts .now) in
     let i = innerOf (s .args .core) (areasOf (s .args .words .now) (s .args .results .now) (s .args .fixed .now) (s .args .block .now)) (s .args .memory) fs in
     let z = step-tables cfg i q b (c .before .before .before .before .before .before .before .match .keys4) in
-    acted-still (alone-stays i _ z) (acts-scan i _ (tables-tame _ _ _ q) z (fills-as (sym (in-room _ _ (s .pre .0))) (c .before .before .before .tables .ensures)) (c .scanned3 .ensures) refl)
+    acted-still (alone-stays i _ z) (acts-scan i _ (tables-tame _ _ _ q) z (fills-as (sym (in-room _ _ (s .pre .0))) (c .before .before .before .scan3 .ensures)) (c .scanned3 .ensures) refl)
 
 same-length-5 : tie.Need-same-length-5
 same-length-5 c = search needs
@@ -203,13 +203,13 @@ act-spec =
     with-hold-requires
     refused-requires
     returns
-    inputs-requires
+    scan-requires
     scanned-requires
-    calculations-requires
+    scan-requires-2
     scanned-requires-2
     serve-requires
     told-requires
-    tables-requires
+    scan-requires-3
     scanned-requires-3
     control-requires
     controlled-requires

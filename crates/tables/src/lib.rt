@@ -1,0 +1,221 @@
+// Function 0Ah: the scan of a table, with the two that its nibbles name.
+use model::Filled;
+use model::Frame;
+use model::Input;
+use model::Outcome;
+use model::Reply;
+use model::Table;
+use points::has_input;
+use points::refused;
+use points::word_of;
+ghost use mathlib.Core.Path.{_≡_};
+ghost use Prim.Native.Nat.{_+_, _*_, _≤_};
+ghost use lib.ListN.{length};
+ghost use Rattle.chars.specs.Put.{part};
+ghost use Rattle.chars.specs.Gather.{Gathered};
+ghost use Rattle.model.specs.Limits.{longestReply};
+ghost use Rattle.model.specs.Frame.{asked};
+ghost use Rattle.model.specs.Config.{has, every};
+ghost use Rattle.model.specs.Scan.{Fills, inRoom};
+ghost use Rattle.model.specs.Tables.{standsAt, tableAt, startOf, tableOf, sendable, wordIn, sendOf, tableScan, tablesOf};
+ghost use Rattle.tables.specs.Judged.{Within, allSendable};
+
+fn stands(area: &[u8], s: usize) -> bool
+    requires { ⌜ s ≤ length (now area) ⌝ }
+    ensures { λ r. ⌜ r ≡ standsAt (now (area .entry)) s ⌝ }
+{
+    let left = area.len() - s;
+    if left < 2 {
+        return false;
+    }
+    let n = chars::wide(area[s + 1]);
+    if left < n + 2 {
+        return false;
+    }
+    let nibbles = area[s];
+    if nibbles == 0 { n != 0 } else { true }
+}
+
+fn table_at(area: &[u8], s: usize) -> Table
+    requires { ⌜ s ≤ length (now area) ⌝ }
+    ensures { λ r. ⌜ r ≡ tableAt (now (area .entry)) s ⌝ }
+    ensures { λ r. ⌜ Within (now (area .entry)) r ⌝ }
+{
+    if stands(area, s) {
+        Table {
+            present: true,
+            nibbles: area[s],
+            start: s + 2,
+            quantity: area[s + 1],
+        }
+    } else {
+        Table {
+            present: false,
+            nibbles: 0,
+            start: 0,
+            quantity: 0,
+        }
+    }
+}
+
+// Where the table after the first k would start. The walk ends at the first that is absent: so are all after it.
+fn start(area: &[u8], k: u8) -> usize
+    ensures { λ r. ⌜ r ≡ startOf (now (area .entry)) k ⌝ }
+    ensures { λ r. ⌜ r ≤ length (now (area .entry)) ⌝ }
+{
+    let mut s = 0;
+    for j in 0..k {
+        let t = table_at(area, s);
+        if t.present {
+            s = t.start + (t.quantity as usize);
+        } else {
+            return area.len();
+        }
+    }
+    s
+}
+
+fn table_of(area: &[u8], k: u8) -> Table
+    ensures { λ r. ⌜ r ≡ tableOf (now (area .entry)) k ⌝ }
+    ensures { λ r. ⌜ Within (now (area .entry)) r ⌝ }
+{
+    if k == 0 {
+        Table {
+            present: true,
+            nibbles: 0,
+            start: 0,
+            quantity: 0,
+        }
+    } else {
+        table_at(area, start(area, k - 1))
+    }
+}
+
+// Whether each of the n numbers of area from index from on is equipped.
+fn equipped(table: &[u8; 256], area: &[u8], from: usize, n: usize) -> bool
+    requires { ⌜ from + n ≤ length (now area) ⌝ }
+    ensures { λ r. ⌜ r ≡ every (has (now (table .entry))) (part (now (area .entry)) from n) ⌝ }
+{
+    for i in 0..n {
+        if has_input(table, Input(area[from + i])) {} else {
+            return false;
+        }
+    }
+    true
+}
+
+fn can_send(table: &[u8; 256], area: &[u8], t: Table) -> bool
+    requires { ⌜ Within (now area) t ⌝ }
+    ensures { λ r. ⌜ r ≡ sendable (now (table .entry)) (now (area .entry)) t ⌝ }
+{
+    if t.present {
+        equipped(table, area, t.start, t.quantity as usize)
+    } else {
+        false
+    }
+}
+
+fn can_send_all(table: &[u8; 256], area: &[u8], one: Table, two: Table, own: Table) -> bool
+    requires { ⌜ Within (now area) one × Within (now area) two × Within (now area) own ⌝ }
+    ensures { λ r. ⌜ r ≡ allSendable (now (table .entry)) (now (area .entry)) one two own ⌝ }
+{
+    if can_send(table, area, own) {
+        if can_send(table, area, one) {
+            can_send(table, area, two)
+        } else {
+            false
+        }
+    } else {
+        false
+    }
+}
+
+// The words of the n numbers of area from index from on go to reply from index at on; where the next goes.
+fn write(
+    area: &[u8],
+    from: usize,
+    n: usize,
+    words: &[u16; 256],
+    reply: &mut [u8],
+    at: usize,
+) -> usize
+    requires { ⌜ (from + n ≤ length (now area)) × (at + 2 * n ≤ length (now reply)) ⌝ }
+    ensures { λ r. ⌜ Gathered (wordIn (now (words .entry))) (part (now (area .entry)) from n) (now (reply .entry)) at (now (reply .exit)) r ⌝ }
+    ensures { λ r. ⌜ r ≡ at + 2 * n ⌝ }
+{
+    let mut to = at;
+    for i in 0..n {
+        chars::put_word(reply, to, word_of(words, Input(area[from + i])));
+        to += 2;
+    }
+    to
+}
+
+// Nothing is written before all three tables and the number of words are judged: a refusal has no data.
+fn send(
+    table: &[u8; 256],
+    area: &[u8],
+    words: &[u16; 256],
+    one: Table,
+    two: Table,
+    own: Table,
+    reply: &mut [u8],
+) -> Filled
+    requires { ⌜ (longestReply ≤ length (now reply)) × (Within (now area) one × Within (now area) two × Within (now area) own) ⌝ }
+    ensures { λ r. ⌜ Fills (now (reply .entry)) (now (reply .exit)) (sendOf (now (table .entry)) (now (area .entry)) (now (words .entry)) one two own) r ⌝ }
+{
+    if can_send_all(table, area, one, two, own) {
+        let l = one.quantity as usize;
+        let m = two.quantity as usize;
+        let n = own.quantity as usize;
+        if 255 < l + m + n {
+            return refused(Outcome::TooLong);
+        }
+        let a = write(area, one.start, l, words, reply, Reply::HEAD);
+        let b = write(area, two.start, m, words, reply, a);
+        let c = write(area, own.start, n, words, reply, b);
+        Filled {
+            outcome: Outcome::Done,
+            count: (c - Reply::HEAD) as u16,
+        }
+    } else {
+        refused(Outcome::NotValid)
+    }
+}
+
+fn table_scan(table: &[u8; 256], area: &[u8], words: &[u16; 256], k: u8, reply: &mut [u8]) -> Filled
+    requires { ⌜ longestReply ≤ length (now reply) ⌝ }
+    ensures { λ r. ⌜ Fills (now (reply .entry)) (now (reply .exit)) (tableScan (now (table .entry)) (now (area .entry)) (now (words .entry)) k) r ⌝ }
+{
+    let own = table_of(area, k);
+    let one = table_of(area, own.nibbles / 16);
+    let two = table_of(area, own.nibbles % 16);
+    send(table, area, words, one, two, own, reply)
+}
+
+pub fn scan<'a>(
+    table: &'a [u8; 256],
+    fixed: &'a [u8; 528],
+    words: &'a [u16; 256],
+    frame: Frame,
+    body: &'a [u8],
+    reply: &mut [u8],
+) -> Filled
+    ensures { λ r. ⌜ Fills (now (reply .entry)) (now (reply .exit)) (inRoom (length (now (reply .entry))) (tablesOf (now (table .entry)) (now (fixed .entry)) (now (words .entry)) (asked frame (now (body .entry))))) r ⌝ }
+{
+    if reply.len() < Reply::LONGEST {
+        return refused(Outcome::BufferShort);
+    }
+    let command = frame.command;
+    if command < 0x41 {
+        return refused(Outcome::Unknown);
+    }
+    if 0x4F < command {
+        return refused(Outcome::Unknown);
+    }
+    if body.len() != 0 {
+        return refused(Outcome::WrongCount);
+    }
+    let blocks = &fixed[..];
+    table_scan(table, &blocks[16..272], words, command % 16, reply)
+}
