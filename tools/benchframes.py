@@ -1,0 +1,61 @@
+"""Lines for the bench program: what tools/bench-stdin and tools/bench-lines share."""
+UNIT, ALL = 1234, 0x7FF
+
+
+def check(characters):
+    word = 0
+    for character in characters:
+        word ^= character
+        for _ in range(8):
+            word = word >> 1 ^ (0xA001 if word & 1 else 0)
+    return word
+
+
+def checked(characters):
+    return characters + check(characters).to_bytes(2, 'little')
+
+
+def frame(function, command, data=b'', master=1, unit=UNIT):
+    address = (master << 11 | unit).to_bytes(2, 'little')
+    return checked(address + bytes([function, command]) + len(data).to_bytes(2, 'little') + data)
+
+
+def heard(stretch):
+    return b'R\t' + stretch.hex().upper().encode()
+
+
+def passed(ms):
+    return b'T\t%d' % ms
+
+
+def asked(function, command, data=b'', master=1, unit=UNIT):
+    return heard(frame(function, command, bytes(data), master, unit))
+
+
+def place(bias, ordinal):
+    """The data of a WRITE, and the front of those of a READ."""
+    return bias.to_bytes(2, 'little') + bytes([ordinal])
+
+
+def written(bias, ordinal, data, master=1):
+    """A WRITE and its EXECUTE."""
+    return [asked(0x20, 0x30, place(bias, ordinal), master), asked(0x20, 0x31, data, master)]
+
+
+def table(numbers, first=0, second=0):
+    return bytes([first << 4 | second, len(numbers)]) + bytes(numbers)
+
+
+def tables(area, master=1):
+    """The table area is ordinal 03: 256 characters, in two halves."""
+    area = area.ljust(256, b'\0')
+    return written(0, 0x03, area[:128], master) + written(128, 0x03, area[128:], master)
+
+
+def bcd(number):
+    return number // 10 << 4 | number % 10
+
+
+def time_of(day, hour, minute, second, ms):
+    """Set Time's seven characters; milliseconds high character first (paper 6.5)."""
+    return bytes([day // 100, bcd(day % 100), bcd(hour), bcd(minute), bcd(second)]) + ms.to_bytes(2, 'big')
