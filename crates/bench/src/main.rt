@@ -88,6 +88,7 @@ fn run<'a>(
     flow::write_out(&shown, flow);
 }
 
+// The unit is fresh: every word, value, block and count is 0.
 fn main() {
     let inputs = answers::equipped();
     let mut words = [0u16; 256];
