@@ -112,7 +112,7 @@ fn wait<'a>(inputs: &'a [u8; 256], kept: Kept, counts: &'a [u8; 32], ms: u32) ->
     let core = kept.core;
     let memory = kept.memory;
     let port = kept.port;
-    let passed = unit::elapsed(
+    let passed = events::elapsed(
         UNIT,
         0,
         inputs,

@@ -2,41 +2,23 @@
 use mathlib.Core.Path.{_≡_, refl, sym, ap, _∙_}
 use Prim.Native.Nat.{ℕ, _≤_}
 use mathlib.Core.List.{List, [], _∷_}
-use mathlib.Core.Bool.{Bool, true, false, cond}
 use lib.ListN.{length, take}
 use native.Mathlib.Omega.{arith}
-use Rattle.chars.specs.Put.{put}
 use Rattle.chars.proofs.PutLaws.{take-put-front}
 use Rattle.model.specs.Config.{Config}
 use Rattle.model.proofs.Conditions.{by-cond}
 use Rattle.model.specs.State.{Inner, State}
 use Rattle.model.specs.Fits.{fits}
-use Rattle.model.specs.Step.{
-  Event,
-  stretch,
-  elapsed,
-  setWord,
-  setValue,
-  pulses,
-  store,
-  Made,
-  quiet,
-  elapsedMade,
-  localMade,
-  wordMade,
-  valueMade,
-  storeMade,
-  makeOf,
-}
+use Rattle.model.specs.Step.{Event, stretch, elapsed, setWord, setValue, pulses, store, quiet, elapsedMade, localMade, wordMade, valueMade, storeMade, makeOf}
 use Rattle.model.specs.Port.{sentChars}
-use Rattle.model.specs.Run.{Result, Entry, short, turnedAway, shows, resultOf, nextOf, entryOf, afterFrom, traceFrom}
+use Rattle.model.specs.Run.{Result, Entry, short, turnedAway, shows, resultOf, entryOf, afterFrom, traceFrom}
 use Rattle.model.specs.declared.Stored.{Stored}
 use Rattle.model.specs.declared.Stored.the-variants.{Kept as KeptRecord, Full, NotEquipped, WrongValues}
 use Rattle.model.specs.declared.Answer.{Answer}
 use Rattle.model.specs.declared.Port.{Port}
 use Rattle.model.specs.declared.Action.the-variants.{Rest}
-use Rattle.unit.specs.Kept.{Kept, stateOf}
-use Rattle.unit.specs.Heed.{Heeds}
+use Rattle.events.specs.Kept.{Kept, stateOf}
+use Rattle.events.specs.Heed.{Heeds}
 use Rattle.unit.specs.Turn.{Turns}
 use Rattle.unit.specs.Calls.{Local, shownBy, answeredBy, Calls, none, heard, heeded}
 use Rattle.unit.specs.declared.line.Turn.{Turn}

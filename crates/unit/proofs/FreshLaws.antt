@@ -1,17 +1,17 @@
 -- A fresh unit: what is cleared character by character, and the state that what is made and cleared stands for. Assumes nothing.
 use mathlib.Core.Path.{_≡_, refl, sym, ap, _∙_}
-use Prim.Native.Nat.{ℕ, zero, suc, _+_, _≤_}
+use Prim.Native.Nat.{ℕ, zero, suc, _+_}
 use native.Mathlib.Omega.{arith}
-use mathlib.Core.List.{List, [], _∷_, _++_}
+use mathlib.Core.List.{List, []}
 use lib.ListN.{length, getD, set, take, replicate, length-replicate, replicate-append-replicate}
 use lib.Seq.{take-all}
 use Rattle.chars.specs.Put.{put}
 use Rattle.chars.proofs.PutLaws.{length-put, put-none, put-more, take-put-front}
 use Rattle.model.specs.Config.{Config}
-use Rattle.model.specs.State.{Files, freshCore, freshAreas, freshHistory, freshPort, freshOf}
+use Rattle.model.specs.State.{freshCore, freshAreas, freshHistory, freshPort, freshOf}
 use Rattle.model.specs.declared.Memory.the-variants.{Nothing}
 use Rattle.history.specs.Layout.{held, recordsIn, each, filesIn}
-use Rattle.unit.specs.Kept.{keptOf, stateOf}
+use Rattle.events.specs.Kept.{keptOf, stateOf}
 use Rattle.unit.specs.Fresh.{Cleared}
 
 -- ---- the loop

@@ -1,126 +1,37 @@
 -- A stretch: what its parts made, put together. Assumes nothing.
 use native.Mathlib.Omega.{arith}
-use mathlib.Core.Path.{_≡_, refl, sym, ap, _∙_}
+use mathlib.Core.Path.{_≡_, sym, ap, _∙_}
 use Prim.Native.Nat.{ℕ, _≤_, _<_}
-use mathlib.Core.List.{List, []}
-use mathlib.Core.Bool.{Bool, true, false, cond, _&&_}
+use mathlib.Core.List.{List}
+use mathlib.Core.Bool.{true, false}
 use lib.ListN.{length}
-use lib.Dec.{eqb, ltb}
 use borrow.Author.Tests.{eq-eqb, ne-eqb, lt-ltb, le-ltb}
 use Rattle.chars.specs.Put.{put, part}
 use Rattle.chars.proofs.PutLaws.{put-none}
 use Rattle.model.specs.Limits.{longestReply}
-use Rattle.model.specs.Frame.{Request, asked, unitOf, broadcastUnit, heardOf, requestIn}
-use Rattle.model.specs.Outcome.{numberOf}
+use Rattle.model.specs.Frame.{asked, unitOf, broadcastUnit, heardOf, requestIn}
 use Rattle.model.specs.Config.{Config}
-use Rattle.model.specs.State.{Areas, Files, Inner}
-use Rattle.model.specs.Scan.{Fills}
-use Rattle.model.specs.Inputs as points
-use Rattle.model.specs.Clock.{Timed, setTimeOf}
+use Rattle.model.specs.State.{Inner}
 use Rattle.model.specs.Fits.{fits}
-use Rattle.model.specs.Step.{
-  stretch,
-  Step as StepOf,
-  Made,
-  withWords,
-  withClock,
-  withBroadcast,
-  refused,
-  changed,
-  timed,
-  quiet,
-  served,
-  broadcastOf,
-  broadcastMade,
-  framed,
-  judged,
-  makeOf,
-}
-use Rattle.model.specs.Port.{sentChars, portAfter}
+use Rattle.model.specs.Step.{stretch, served, broadcastOf, broadcastMade, framed, judged, makeOf}
 use Rattle.model.specs.Run.{short, Result, turnedAway, shows, moves}
-use Rattle.model.specs.declared.Outcome.{Outcome}
-use Rattle.model.specs.declared.Outcome.the-variants.{Unknown, NotWhole, CheckWrong, OtherUnit, BroadcastDone, BroadcastRefused, NotConfigured, BufferShort}
-use Rattle.model.specs.declared.Answer.the-variants.{Ended}
+use Rattle.model.specs.declared.Outcome.the-variants.{NotWhole, CheckWrong, OtherUnit, NotConfigured, BufferShort}
 use Rattle.model.specs.declared.Action.the-variants.{Rest}
-use Rattle.model.specs.declared.Filled.{Filled}
 use Rattle.model.specs.declared.Frame.{Frame}
 use Rattle.model.specs.declared.Heard.the-variants.{Broken, Wrong, Whole}
-use Rattle.model.specs.declared.Core.{Core}
-use Rattle.model.specs.declared.Memory.{Memory}
 use Rattle.model.specs.declared.Mark.{Mark}
-use Rattle.model.specs.declared.Port.{Port}
 use Rattle.model.proofs.TurnedAway.{short-away, unfit-away, works}
-use Rattle.points.specs.Answer.{replyOf}
-use Rattle.history.specs.Change.{stays, areaAfter, countsAfter, Changed}
+use Rattle.events.specs.Kept.{Kept, keptOf, innerOf, stateOf}
+use Rattle.events.specs.Changes.{stepOf, changeFramed, changeHeard, changeMade, changeOf}
+use Rattle.events.proofs.HeedLaws.{still}
+use Rattle.replies.specs.Ends.{portBy}
+use Rattle.commands.specs.declared.Made.{Made as MadeOf}
+use Rattle.commands.specs.Acts.{Makes}
+use Rattle.commands.proofs.BroadcastLaws.{makes-quiet}
+use Rattle.serving.specs.Served.{MakesIn}
 use Rattle.unit.specs.declared.line.Turn.{Turn}
-use Rattle.unit.specs.declared.line.Step.{Step}
-use Rattle.unit.specs.declared.line.Made.{Made as MadeOf}
-use Rattle.unit.specs.Kept.{Kept, keptOf, innerOf, stateOf}
-use Rattle.unit.specs.Changes.{stepOf, changeFramed, changeHeard, changeMade, changeOf}
-use Rattle.unit.specs.Turn.{Turns, Makes, MakesIn, Stirs, portBy}
-use Rattle.unit.proofs.ReplyLaws.{inner-same, port-judged}
-
-still : (area held : List ℕ) → Changed stays area held area held
-unfolding areaAfter countsAfter
-still area held = record { moved = refl; counted = refl }
-
--- ---- a broadcast
-
-module _ (c : Config) (k : Core) (a : Areas) (q : Request) where
-  pub broadcast-not : (q .function ≡ 0x20 → ⊥) → broadcastOf c k a q ≡ refused Unknown k a
-  unfolding broadcastOf
-  broadcast-not n = simp (ne-eqb _ _ n)
-
-  module _ (f : q .function ≡ 0x20) where
-    pub broadcast-reset : q .command ≡ 0x11 → broadcastOf c k a q ≡ changed k a (points.resetCountOf (c .inputs) (a .words) q)
-    unfolding broadcastOf
-    broadcast-reset e = simp (f, e)
-
-    pub broadcast-time : q .command ≡ 0x38 → broadcastOf c k a q ≡ timed k a (setTimeOf (k .clock) q)
-    unfolding broadcastOf
-    broadcast-time e = simp (f, e)
-
-    pub broadcast-other : (q .command ≡ 0x11 → ⊥) → (q .command ≡ 0x38 → ⊥) → broadcastOf c k a q ≡ refused Unknown k a
-    unfolding broadcastOf
-    broadcast-other m n = simp (f, ne-eqb _ _ m, ne-eqb _ _ n)
-
-module _ (k : Core) (a : Areas) (w : Memory) {p : StepOf} {b : Areas} {r : Step} where
-  pub stirs-reset : {x : points.Changed} {ws entry exit : List ℕ} (f : Filled) → p ≡ changed k a x → Fills entry exit (replyOf x) f → ws ≡ x .area
-      → r ≡ record { outcome = f .outcome; action = Rest; count = f .count; core = k; memory = w } → b ≡ withWords a ws → Stirs p b r
-  unfolding changed
-  stirs-reset f z v u e y = rw (z, e, y) (record { ended = v .ended; core = refl; areas = ap (withWords a) u })
-
-  pub stirs-time : {x : Timed} (o : Outcome) → p ≡ timed k a x → o ≡ x .outcome
-      → r ≡ record { outcome = o; action = Rest; count = 0; core = withClock k (x .clock); memory = w } → b ≡ a → Stirs p b r
-  unfolding timed
-  stirs-time o z v e y = rw (z, e, y) (record { ended = v; core = refl; areas = refl })
-
-  pub stirs-refused : p ≡ refused Unknown k a → r ≡ record { outcome = Unknown; action = Rest; count = 0; core = k; memory = w } → b ≡ a → Stirs p b r
-  unfolding refused
-  stirs-refused z e y = rw (z, e, y) (record { ended = refl; core = refl; areas = refl })
-
-pub makes-broadcast : (k : Core) (a : Areas) (w : Memory) (fs : Files) (mark : Mark) (entry : List ℕ) {p : StepOf} {b : Areas} (r : Step) {x : MadeOf} (o : Outcome)
-    → Stirs p b r → o ≡ cond (eqb (numberOf (r .outcome)) 0) BroadcastDone BroadcastRefused
-    → x ≡ record { outcome = o; action = Rest; sent = 0; core = withBroadcast (r .core) true; memory = w }
-    → Makes (broadcastMade (innerOf k a w fs) p) mark (innerOf (x .core) b (x .memory) fs) entry entry x
-unfolding broadcastMade quiet sentChars
-makes-broadcast k a w fs mark entry r o s z e =
-    rw e
-    (record {
-      answered = ap Ended (z ∙ rw (s .ended));
-      acted = refl;
-      counted = refl;
-      inside = omega arith;
-      written = sym (put-none entry 0);
-      inner = inner-same (ap (λ (l : Core). withBroadcast l true) (s .core)) (s .areas) refl;
-    })
-
-pub makes-quiet : (i : Inner) (mark : Mark) (entry : List ℕ) {x : MadeOf} (o : Outcome)
-    → x ≡ record { outcome = o; action = Rest; sent = 0; core = i .core; memory = i .history .memory }
-    → Makes (quiet (Ended o) i) mark (innerOf (x .core) (i .areas) (x .memory) (i .history .files)) entry entry x
-unfolding quiet sentChars
-makes-quiet i mark entry o e =
-    rw e (record { answered = refl; acted = refl; counted = refl; inside = omega arith; written = sym (put-none entry 0); inner = refl })
+use Rattle.unit.specs.Turn.{Turns}
+use Rattle.unit.proofs.MarkLaws.{port-judged}
 
 -- ---- a stretch that a working unit hears
 
@@ -199,18 +110,17 @@ module _ (c : Config) (s : List ℕ) (k : Kept) (entry : List ℕ) {r : Turn} wh
         changed = rw (t, b) (still (k .area) (k .counts));
       })
 
-  pub turns-made : {ws fx bl area held exit : List ℕ} (m : MadeOf) {p : Port} → longestReply ≤ length entry → fits c (stateOf c k) ≡ true
+  pub turns-made : {ws fx bl area held exit : List ℕ} (m : MadeOf) → longestReply ≤ length entry → fits c (stateOf c k) ≡ true
       → MakesIn (judged c (stateOf c k .inner) s (heardOf s)) (changeHeard c (stateOf c k .inner) s (heardOf s)) (k .port .mark)
-      (stateOf c (keptOf (m .core) (m .memory) p ws (k .results) fx bl area held) .inner) (k .area) (k .counts) area held entry exit m
-      → p ≡ portBy (k .port) s (m .outcome)
-      → r ≡ record { outcome = m .outcome; action = m .action; sent = m .sent; core = m .core; memory = m .memory; port = p }
+      (stateOf c (keptOf (m .core) (m .memory) (k .port) ws (k .results) fx bl area held) .inner) (k .area) (k .counts) area held entry exit m
+      → r ≡ record { outcome = m .outcome; action = m .action; sent = m .sent; core = m .core; memory = m .memory; port = portBy (k .port) s (m .outcome) }
       → Turns c s k (keptOf (r .core) (r .memory) (r .port) ws (k .results) fx bl area held) entry exit r
   unfolding short makeOf shows moves changeOf changeMade
-  turns-made m l b v z e =
+  turns-made m l b v e =
       let t : short (stretch (length entry) s) ≡ false = le-ltb (length entry) 520 l in
       let w = works c (stateOf c k) (stretch (length entry) s) t b in
       let y = v .makes in
-      let port = z ∙ sym (port-judged c (stateOf c k .inner) s (heardOf s) (k .port) (m .outcome) (length entry) (y .answered)) in
+      let port = sym (port-judged c (stateOf c k .inner) s (heardOf s) (k .port) (m .outcome) (length entry) (y .answered)) in
       rw e
       (record {
         answered = y .answered ∙ sym (ap (λ (x : Result). x .answer) (w .0));

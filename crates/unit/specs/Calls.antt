@@ -9,8 +9,8 @@ use Rattle.model.specs.Run.{Result}
 use Rattle.model.specs.declared.Answer.{Answer}
 use Rattle.model.specs.declared.Answer.the-variants.{Ended}
 use Rattle.model.specs.declared.Action.the-variants.{Rest}
-use Rattle.unit.specs.Kept.{Kept}
-use Rattle.unit.specs.Heed.{Heeds}
+use Rattle.events.specs.Kept.{Kept}
+use Rattle.events.specs.Heed.{Heeds}
 use Rattle.unit.specs.Turn.{Turns}
 use Rattle.unit.specs.declared.line.Turn.{Turn}
 

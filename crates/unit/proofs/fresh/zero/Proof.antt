@@ -1,6 +1,6 @@
 -- `unit::fresh::zero` meets its contract. The invariant: the characters passed are 0, the others as they were.
 -- Assumes nothing.
-use mathlib.Core.Path.{_≡_, refl, sym, ap, _∙_}
+use mathlib.Core.Path.{_≡_, refl, _∙_}
 use Prim.Native.Nat.{_≤_, _-_}
 use native.Mathlib.Omega.{arith}
 use lib.ListN.{length, replicate, length-set}

@@ -1,12 +1,11 @@
 -- `unit::line::stretch` meets its contract. Assumes nothing.
-
-use mathlib.Core.Path.{_≡_, refl, sym, ap, _∙_}
+use mathlib.Core.Path.{refl}
 use native.Mathlib.Omega.{arith}
 use Prim.Native.Nat.{_≤_, _<_}
 use lib.ListN.{length}
 use Rattle.judge.specs.Judged.{configOf}
-use Rattle.unit.specs.Kept.{keptOf, stateOf}
-use Rattle.unit.proofs.FitLaws.{judged-as, in-range}
+use Rattle.events.specs.Kept.{keptOf, stateOf}
+use Rattle.events.proofs.FitLaws.{judged-as, in-range}
 use Rattle.unit.proofs.TurnLaws.{turns-short, turns-unfit, turns-made}
 use borrow.Author.Needs.{needs}
 use Rattle.unit.proofs.line.stretch.Statement.{statement}
@@ -26,19 +25,16 @@ returns c =
 fits-requires : tie.Need-fits-requires
 fits-requires c κs = search needs
 
-told-long-requires : tie.Need-told-long-requires
-told-long-requires c κs = search needs
-
 judged-requires : tie.Need-judged-requires
 judged-requires c κs =
-    let s = c .before .before .before .before .before .before .before .before .before .before .before .before .before .before .before .before .before .before in
+    let s = c .before .before .before .before .before .before .before .before .before .before .before .before .before in
     let cfg = configOf (s .args .unit) (s .args .length) (s .args .inputs .now) (s .args .outputs .now) (s .args .calculations .now) (s .args .files .now) (s .args .values .now) in
     let k = keptOf (s .args .core) (s .args .memory) (s .args .port) (s .args .words .now) (s .args .results .now) (s .args .fixed .now) (s .args .block .now) (s .args .area .now) (s .args .counts .now) in
-    let l : 520 ≤ length (s .args .buffer .now) = omega (arith, c .before .before .before .before .before .before .before .before .before .before .before .before .before .before .if1 .left) in
-    (l, in-range cfg (stateOf cfg k) (judged-as cfg k refl (c .before .before .before .before .before .before .before .before .before .before .before .before .fits2 .ensures) (c .before .before .before .before .before .before .before .before .before .before .before .if2 .taken)) .clock)
+    let l : 520 ≤ length (s .args .buffer .now) = omega (arith, c .before .before .before .before .before .before .before .before .before .if1 .left) in
+    (l, in-range cfg (stateOf cfg k) (judged-as cfg k refl (c .before .before .before .before .before .before .before .fits2 .ensures) (c .before .before .before .before .before .before .if2 .taken)) .clock)
 
-port-after-requires : tie.Need-port-after-requires
-port-after-requires c κs = search needs
+turned-requires : tie.Need-turned-requires
+turned-requires c κs = search needs
 
 same-length : tie.Need-same-length
 same-length c = search needs
@@ -48,15 +44,13 @@ same-length-2 c = search needs
 
 returns-2 : tie.Need-returns-2
 returns-2 c =
-    let s = c .before .before .before .before .before .before .before .before .before .before .before .before .before .before .before .before .before .before .before .before .before .before .before .before .before in
+    let s = c .before .before .before .before .before .before .before .before .before .before .before .before .before .before .before .before .before .before .before in
     let cfg = configOf (s .args .unit) (s .args .length) (s .args .inputs .now) (s .args .outputs .now) (s .args .calculations .now) (s .args .files .now) (s .args .values .now) in
     let k = keptOf (s .args .core) (s .args .memory) (s .args .port) (s .args .words .now) (s .args .results .now) (s .args .fixed .now) (s .args .block .now) (s .args .area .now) (s .args .counts .now) in
-    let l : 520 ≤ length (s .args .buffer .now) = omega (arith, c .before .before .before .before .before .before .before .before .before .before .before .before .before .before .before .before .before .before .before .before .before .if1 .left) in
-    let room : length (s .args .area .now) ≡ 38912 = omega (arith, c .before .before .before .before .before .before .before .before .before .before .before .before .before .before .before .before .told-long-arg2 .given) in
-    let long : length (s .args .counts .now) ≡ 32 = omega (arith, c .before .before .before .before .before .before .before .before .before .before .before .before .before .before .told-long-arg4 .given) in
-    let f = (judged-as cfg k refl (c .before .before .before .before .before .before .before .before .before .before .before .before .before .before .before .before .before .before .before .fits2 .ensures) (c .before .before .before .before .before .before .before .before .before .before .before .before .before .before .before .before .before .before .if2 .taken)) in
+    let l : 520 ≤ length (s .args .buffer .now) = omega (arith, c .before .before .before .before .before .before .before .before .before .before .before .before .before .before .before .if1 .left) in
+    let f = judged-as cfg k refl (c .before .before .before .before .before .before .before .before .before .before .before .before .before .fits2 .ensures) (c .before .before .before .before .before .before .before .before .before .before .before .before .if2 .taken) in
     let g = in-range cfg (stateOf cfg k) f in
-    turns-made cfg (s .args .s .now) k (s .args .buffer .now) _ l f (c .before .before .before .before .before .before .judged .ensures (s .args .length) (record { valid = g .valid; fits = g .history; room = room; long = long })) (c .port-after .ensures) refl
+    turns-made cfg (s .args .s .now) k (s .args .buffer .now) _ l f (c .before .before .before .before .before .judged .ensures (s .args .length) (g .valid) (g .history)) (c .turned .ensures)
 
 away-requires-2 : tie.Need-away-requires-2
 away-requires-2 c κs = search needs
@@ -76,9 +70,8 @@ stretch-spec =
     away-requires
     returns
     fits-requires
-    told-long-requires
     judged-requires
-    port-after-requires
+    turned-requires
     same-length
     same-length-2
     returns-2

@@ -1,0 +1,86 @@
+-- `commands::broadcast_step` meets its contract. Assumes nothing.
+use mathlib.Core.Path.{refl, ap, _∙_}
+use Prim.Native.Nat.{ℕ}
+use mathlib.Core.List.{List}
+use Rattle.model.specs.Frame.{asked}
+use Rattle.model.specs.Inputs.{resetCountOf}
+use Rattle.model.specs.Step.{changed}
+use Rattle.clock.specs.declared.Set.{Set}
+use Rattle.events.specs.Kept.{areasOf}
+use Rattle.commands.proofs.BroadcastLaws.{broadcast-not, broadcast-reset, broadcast-time, broadcast-other, stirs-reset, stirs-time, stirs-refused}
+use borrow.Author.Needs.{needs}
+use Rattle.commands.proofs.broadcast_step.Statement.{statement}
+use Rattle.commands.proofs.broadcast_step.Tie as tie
+
+slice-aggregate-reset-count : tie.Need-slice-aggregate-reset-count
+slice-aggregate-reset-count c = search needs
+
+reset-count-requires : tie.Need-reset-count-requires
+reset-count-requires c κs = search needs
+
+scanned-requires : tie.Need-scanned-requires
+scanned-requires c κs = search needs
+
+set-time-requires : tie.Need-set-time-requires
+set-time-requires c κs = search needs
+
+timed-requires : tie.Need-timed-requires
+timed-requires c κs = search needs
+
+refused-requires : tie.Need-refused-requires
+refused-requires c κs = search needs
+
+returns : tie.Need-returns
+returns c =
+    let s = c .before .before .before .before .before .before .before .before .before in
+    λ cfg results fixed block e.
+    let q = asked (s .args .frame) (s .args .body .now) in
+    let k = s .args .core in
+    let a = areasOf (s .args .words .now) results fixed block in
+    stirs-reset k a (s .args .memory) _ (broadcast-reset cfg k a q (c .before .before .before .before .before .before .if1 .taken) (c .before .before .before .before .before .match .keys1) ∙ ap (λ (t : List ℕ). changed k a (resetCountOf t (a .words) q)) e) (c .before .before .reset-count .ensures .0) (c .before .before .reset-count .ensures .1) (c .scanned .ensures) refl
+
+returns-2 : tie.Need-returns-2
+returns-2 c =
+    let s = c .before .before .before .before .before .before .before in
+    λ cfg results fixed block e.
+    let q = asked (s .args .frame) (s .args .body .now) in
+    let k = s .args .core in
+    let a = areasOf (s .args .words .now) results fixed block in
+    stirs-time k a (s .args .memory) _ (broadcast-time cfg k a q (c .before .before .before .before .if1 .taken) (c .before .before .before .match .keys2)) (ap (λ (x : Set). x .outcome) (c .before .set-time .ensures)) (c .timed .ensures ∙ rw (c .before .set-time .ensures)) refl
+
+returns-3 : tie.Need-returns-3
+returns-3 c =
+    let s = c .before .before .before .before .before in
+    λ cfg results fixed block e.
+    let q = asked (s .args .frame) (s .args .body .now) in
+    let k = s .args .core in
+    let a = areasOf (s .args .words .now) results fixed block in
+    stirs-refused k a (s .args .memory) (broadcast-other cfg k a q (c .before .before .if1 .taken) (c .before .match .rest .0 .1) (c .before .match .rest .1)) (c .refused .ensures) refl
+
+refused-requires-2 : tie.Need-refused-requires-2
+refused-requires-2 c κs = search needs
+
+returns-4 : tie.Need-returns-4
+returns-4 c =
+    let s = c .before .before .before .before in
+    λ cfg results fixed block e.
+    let q = asked (s .args .frame) (s .args .body .now) in
+    let k = s .args .core in
+    let a = areasOf (s .args .words .now) results fixed block in
+    stirs-refused k a (s .args .memory) (broadcast-not cfg k a q (c .before .if1 .left)) (c .refused2 .ensures) refl
+
+pub broadcast-step-spec : {M : Type 1} → statement M
+broadcast-step-spec =
+    tie.close
+    (tie.spec
+    slice-aggregate-reset-count
+    reset-count-requires
+    scanned-requires
+    set-time-requires
+    timed-requires
+    refused-requires
+    returns
+    returns-2
+    returns-3
+    refused-requires-2
+    returns-4)

@@ -1,0 +1,3 @@
+-- The laws that the proofs of this crate and of its users cite.
+pub mod ReplyLaws
+pub mod Unique

@@ -1,0 +1,49 @@
+-- `replies::finish` meets its contract. Assumes nothing.
+use Rattle.replies.specs.Ends.{headOf}
+use Rattle.replies.proofs.ReplyLaws.{replies-said, replies-none}
+use mathlib.Core.Path.{sym, _∙_}
+use borrow.Author.Needs.{needs}
+use Rattle.replies.proofs.finish.Statement.{statement}
+use Rattle.replies.proofs.finish.Tie as tie
+
+is-answered-requires : tie.Need-is-answered-requires
+is-answered-requires c κs = search needs
+
+reply-function-requires : tie.Need-reply-function-requires
+reply-function-requires c κs = search needs
+
+status-of-requires : tie.Need-status-of-requires
+status-of-requires c κs = search needs
+
+port-status-requires : tie.Need-port-status-requires
+port-status-requires c κs = search needs
+
+fill-requires : tie.Need-fill-requires
+fill-requires c κs = search needs
+
+same-length : tie.Need-same-length
+same-length c = search needs
+
+returns : tie.Need-returns
+returns c =
+    let s = c .before .before .before .before .before .before .before .before .before .before in
+    replies-said _ (s .args .outcome) (headOf (s .args .found) (s .args .frame .address) (s .args .frame .function) (s .args .outcome) (s .args .count) (s .args .mark)) _ (sym (c .before .before .before .before .before .before .before .before .is-answered .ensures) ∙ c .before .before .before .before .before .before .before .if1 .taken)
+    (λ j. record { address = s .args .frame .address; function = (c .before .before .before .before .before .before .reply-function .ensures) j; status = (c .before .before .before .before .before .status-of .ensures) j; port = (c .before .before .before .before .port-status .ensures) j; count = s .args .count })
+    (c .before .before .fill .ensures)
+
+returns-2 : tie.Need-returns-2
+returns-2 c =
+    replies-none _ _ _ (sym (c .before .is-answered .ensures) ∙ c .if1 .left)
+
+pub finish-spec : {M : Type 1} → statement M
+finish-spec =
+    tie.close
+    (tie.spec
+    is-answered-requires
+    reply-function-requires
+    status-of-requires
+    port-status-requires
+    fill-requires
+    same-length
+    returns
+    returns-2)

@@ -1,0 +1,39 @@
+-- How a frame ends by its outcome: the reply and its head, the mark and the port afterwards.
+use mathlib.Core.Path.{_≡_}
+use Prim.Native.Nat.{ℕ}
+use mathlib.Core.List.{List, []}
+use mathlib.Core.Bool.{cond}
+use lib.ListN.{length}
+use lib.Dec.{eqb}
+use Rattle.chars.specs.Put.{put}
+use Rattle.model.specs.Outcome.{sendingOf, replyFunction, damaged}
+use Rattle.model.specs.Step.{answered, statusOf}
+use Rattle.model.specs.Port.{portStatus}
+use Rattle.model.specs.declared.Outcome.{Outcome}
+use Rattle.model.specs.declared.Core.{Core}
+use Rattle.model.specs.declared.Mark.{Mark}
+use Rattle.model.specs.declared.Mark.the-variants.{Fine, Damaged}
+use Rattle.model.specs.declared.Port.{Port}
+use Rattle.model.specs.declared.Reply.{Reply}
+use Rattle.frames.specs.Framed.{framedIn}
+
+-- the head of the reply to a frame of which a function made o, with n characters of data
+abbrev pub headOf : Core → ℕ → ℕ → Outcome → ℕ → Mark → Reply
+headOf found address function o n mark =
+    record { address = address; function = replyFunction function o; status = statusOf found; port = portStatus mark; count = n }
+
+-- the characters that a reply lays round its data, if it is one
+unfoldable pub repliedIn : List ℕ → Outcome → Reply → List ℕ
+repliedIn entry o head = cond (answered (sendingOf o)) (framedIn entry head) []
+
+pub record Replies (entry exit : List ℕ) (o : Outcome) (head : Reply) (n : ℕ) : Type 0 where
+  pub counted : n ≡ length (repliedIn entry o head)
+  pub written : exit ≡ put entry 0 (repliedIn entry o head)
+
+-- the mark after a stretch with this outcome: an answered frame sets 00, damage marks (Frames 13, 14)
+unfoldable pub markBy : Mark → Outcome → Mark
+markBy m o = cond (answered (sendingOf o)) Fine (cond (damaged o) Damaged m)
+
+-- the port after a stretch s with this outcome: an empty one changes nothing, any other ends the silence (Frames 15, 16)
+unfoldable pub portBy : Port → List ℕ → Outcome → Port
+portBy p s o = cond (eqb (length s) 0) p (record { silence = 0; mark = markBy (p .mark) o })

@@ -1,0 +1,125 @@
+-- A frame for this unit by its function: the step that it comes to, and how what a function hands back makes that step.
+-- Assumes nothing.
+use mathlib.Core.Path.{_≡_, refl, sym, ap}
+use Prim.Native.Nat.{ℕ}
+use mathlib.Core.List.{List}
+use mathlib.Core.Bool.{true, false}
+use lib.Dec.{eqb}
+use borrow.Author.Tests.{ne-eqb}
+use Rattle.chars.proofs.PutLaws.{put-none}
+use Rattle.model.specs.Limits.{replyHead}
+use Rattle.model.specs.Frame.{Request}
+use Rattle.model.specs.Config.{Config}
+use Rattle.model.specs.State.{Areas, Files, Inner}
+use Rattle.model.specs.Scan.{counts}
+use Rattle.model.specs.Inputs as points
+use Rattle.model.specs.Calculations.{calculationsOf}
+use Rattle.model.specs.Tables.{tablesOf}
+use Rattle.model.specs.Control.{Controlled, controlOf, breaks}
+use Rattle.model.specs.History.{historyOf}
+use Rattle.model.specs.Step.{
+  Step as StepOf,
+  withHold,
+  refused,
+  scanned,
+  controlled,
+  otherOf,
+  finished,
+  beside,
+  brokenOff,
+  historyMade,
+  initialises,
+  initialised,
+  served,
+}
+use Rattle.model.specs.declared.Outcome.{Outcome}
+use Rattle.model.specs.declared.Outcome.the-variants.{Unknown}
+use Rattle.model.specs.declared.Action.the-variants.{Rest}
+use Rattle.model.specs.declared.Core.{Core}
+use Rattle.model.proofs.Conditions.{by-bool}
+use Rattle.control.specs.declared.Ran.{Ran}
+use Rattle.control.specs.Runs.{Runs}
+use Rattle.history.specs.Change.{stays, freedBy}
+use Rattle.events.specs.Changes.{Stepped, alone, telling, initialStep, internalStep, returnStep, stepOf}
+use Rattle.events.proofs.HeedLaws.{still}
+use Rattle.commands.specs.declared.Step.{Step}
+use Rattle.commands.specs.Acts.{Tame, Acts}
+use Rattle.commands.proofs.TameLaws.{mute}
+use Rattle.serving.specs.Served.{Acted}
+
+-- ---- which step
+
+module _ (c : Config) (i : Inner) (q : Request) where
+  pub step-broken : breaks (i .core .hold) q ≡ true → stepOf c i q ≡ alone i (brokenOff (i .core) (i .areas))
+  unfolding stepOf
+  step-broken b = rw b
+
+  module _ (b : breaks (i .core .hold) q ≡ false) where
+    pub step-told : q .function ≡ 0x04 → stepOf c i q ≡ telling i (historyOf (c .files) (c .values) (i .history) q) (freedBy (c .files) (i .history .memory) q)
+    unfolding stepOf
+    step-told e = simp (b, e)
+
+    pub step-inputs : q .function ≡ 0x00 → stepOf c i q ≡ alone i (scanned (i .core) (i .areas) (points.inputsOf (c .inputs) (i .areas .words) q))
+    unfolding stepOf initialises otherOf
+    step-inputs e = simp (b, e)
+
+    pub step-calculations : q .function ≡ 0x03 → stepOf c i q ≡ alone i (scanned (i .core) (i .areas) (calculationsOf (c .calculations) (i .areas .values) q))
+    unfolding stepOf initialises otherOf
+    step-calculations e = simp (b, e)
+
+    pub step-tables : q .function ≡ 0x0A → stepOf c i q ≡ alone i (scanned (i .core) (i .areas) (tablesOf (c .inputs) (i .areas .fixed) (i .areas .words) q))
+    unfolding stepOf initialises otherOf
+    step-tables e = simp (b, e)
+
+    pub step-control : q .function ≡ 0x10 → stepOf c i q ≡ alone i (controlled (i .core) (i .areas) (controlOf (c .outputs) (i .core .hold) q))
+    unfolding stepOf initialises otherOf
+    step-control e = simp (b, e)
+
+    pub step-internal : q .function ≡ 0x20 → stepOf c i q ≡ internalStep c i q
+    unfolding stepOf internalStep initialises otherOf
+    step-internal e = simp (b, e)
+
+    pub step-return : q .function ≡ 0x28 → stepOf c i q ≡ returnStep i q
+    unfolding stepOf returnStep initialises otherOf
+    step-return e = simp (b, e)
+
+    pub step-unknown : (q .function ≡ 0x00 → ⊥) → (q .function ≡ 0x03 → ⊥) → (q .function ≡ 0x04 → ⊥) → (q .function ≡ 0x0A → ⊥) → (q .function ≡ 0x10 → ⊥)
+        → (q .function ≡ 0x20 → ⊥) → (q .function ≡ 0x28 → ⊥) → stepOf c i q ≡ alone i (refused Unknown (i .core) (i .areas))
+    unfolding stepOf initialises otherOf
+    step-unknown f₀ f₁ f₂ f₃ f₄ f₅ f₆ =
+        simp (b, ne-eqb _ _ f₀, ne-eqb _ _ f₁, ne-eqb _ _ f₂, ne-eqb _ _ f₃, ne-eqb _ _ f₄, ne-eqb _ _ f₅, ne-eqb _ _ f₆)
+
+  -- every frame for this unit is settled and sent alike
+  pub served-is : served c i q ≡ finished (i .core) q (stepOf c i q .step) (stepOf c i q .history)
+  unfolding served stepOf beside alone historyMade telling initialised initialStep
+  served-is =
+      by-bool (breaks (i .core .hold) q) (λ a. rw a) (λ a. by-bool (eqb (q .function) 0x04) (λ b. rw (a, b))
+      (λ b. by-bool (initialises q) (λ d. by-bool (counts 0 q) (λ e. rw (a, b, d, e)) (λ e. rw (a, b, d, e))) (λ d. rw (a, b, d))))
+
+-- ---- what a function hands back
+
+module _ (i : Inner) {m : Stepped} {a : Areas} {entry exit : List ℕ} {r : Step} where
+  pub acts-broken : {k : Core} {o : Outcome} → m ≡ alone i (refused o k (i .areas)) → exit ≡ entry
+      → r ≡ record { outcome = o; action = Rest; count = 0; core = k; memory = i .history .memory } → a ≡ i .areas
+      → Acts m a (i .history .files) entry exit r
+  unfolding alone refused
+  acts-broken z x e y =
+      let t = mute in
+      rw (z, e, y, x) (record { ended = refl; acted = refl; counted = refl; written = sym (put-none entry replyHead); core = refl; areas = refl; history = refl; tame = t })
+
+  pub acts-control : {x : Controlled} (f : Ran) → Tame (x .outcome) (x .chars) → m ≡ alone i (controlled (i .core) (i .areas) x) → Runs entry exit x f
+      → r ≡ record { outcome = f .outcome; action = f .action; count = f .count; core = withHold (i .core) (f .hold); memory = i .history .memory } → a ≡ i .areas
+      → Acts m a (i .history .files) entry exit r
+  unfolding alone controlled
+  acts-control f t z w e y =
+      rw (z, e, y)
+      (record { ended = w .ended; acted = w .acted; counted = w .counted; written = w .written; core = ap (withHold (i .core)) (w .held); areas = refl; history = refl; tame = t })
+
+-- a step that leaves the files
+pub acted-still : {m : Stepped} {a : Areas} {fs : Files} {area held entry exit : List ℕ} {r : Step} → m .change ≡ stays → Acts m a fs entry exit r
+    → Acted m a fs area held area held entry exit r
+acted-still {area = area} {held} e w = record { acts = w; changed = rw e (still area held) }
+
+pub alone-stays : (i : Inner) (p : StepOf) {m : Stepped} → m ≡ alone i p → m .change ≡ stays
+unfolding alone
+alone-stays i p e = rw e

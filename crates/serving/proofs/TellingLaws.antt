@@ -1,0 +1,48 @@
+-- Function 04 as the step that it comes to. Assumes nothing.
+use mathlib.Core.Path.{_≡_, refl}
+use Prim.Native.Nat.{ℕ, _≤_}
+use native.Mathlib.Omega.{arith}
+use mathlib.Core.List.{List}
+use Rattle.model.specs.Frame.{Request}
+use Rattle.model.specs.Config.{Config}
+use Rattle.model.specs.State.{Areas}
+use Rattle.model.specs.History.{historyOf}
+use Rattle.model.specs.declared.Action.the-variants.{Rest}
+use Rattle.model.specs.declared.Core.{Core}
+use Rattle.model.specs.declared.Memory.{Memory}
+use Rattle.history.specs.declared.Told.{Told}
+use Rattle.history.specs.Layout.{filesIn}
+use Rattle.history.specs.Change.{freedBy}
+use Rattle.history.specs.Tell.{Serves}
+use Rattle.history.proofs.FitsLaws.{serves-told, serves-files}
+use Rattle.commands.specs.declared.Step.{Step}
+use Rattle.events.specs.Kept.{innerOf}
+use Rattle.events.specs.Changes.{Stepped, telling}
+use Rattle.commands.proofs.TameLaws.{tame}
+use Rattle.serving.specs.Served.{Ready, Acted}
+use Rattle.serving.proofs.TameLaws.{history-says, told-short}
+
+pub acted-told : (c : Config) (k : Core) (a : Areas) (w : Memory) (area held : List ℕ) (q : Request) {m : Stepped} {b : Areas} {entry exit area′ held′ : List ℕ} (t : Told) {r : Step}
+    → Ready c w area held → Serves (c .files) (c .values) w q area held entry t area′ held′ exit
+    → m ≡ telling (innerOf k a w (filesIn (c .values) area held)) (historyOf (c .files) (c .values) (record { memory = w; files = filesIn (c .values) area held }) q) (freedBy (c .files) w q)
+    → r ≡ record { outcome = t .outcome; action = Rest; count = t .count; core = k; memory = t .memory } → b ≡ a
+    → Acted m b (filesIn (c .values) area′ held′) area held area′ held′ entry exit r
+unfolding telling
+acted-told c k a w area held q {area′ = area′} {held′} t y s z e x =
+    let u = serves-told c area held w (y .valid) (y .fits) (y .room) (y .long) s in
+    let v = serves-files c area held w (y .valid) (y .fits) (y .room) (y .long) s in
+    let n : t .count ≤ 511 = omega (arith, told-short c area′ held′ w q (y .valid), s .told .sent .counted) in
+    rw (z, e, x)
+    (record {
+      acts = record {
+        ended = u .ended;
+        acted = refl;
+        counted = u .sent .counted;
+        written = u .sent .written;
+        core = refl;
+        areas = refl;
+        history = λ j. record { memory = u .kept j; files = v j };
+        tame = tame (history-says (c .files) (c .values) (record { memory = w; files = filesIn (c .values) area held }) q) (omega (arith, u .sent .counted));
+      };
+      changed = s .changed;
+    })
