@@ -1,0 +1,37 @@
+-- `board::osturdam_set_value` meets its contract. Assumes nothing.
+use mathlib.Core.Path.{refl}
+use Rattle.board.proofs.ToldLaws.{tells-same, tells-away}
+use borrow.Author.Needs.{needs}
+use Rattle.board.proofs.osturdam_set_value.Statement.{statement}
+use Rattle.board.proofs.osturdam_set_value.Tie as tie
+
+opening-requires : tie.Need-opening-requires
+opening-requires c κs = search needs
+
+set-value-requires : tie.Need-set-value-requires
+set-value-requires c κs = search needs
+
+number-requires : tie.Need-number-requires
+number-requires c κs = search needs
+
+returns : tie.Need-returns
+returns c = λ words fixed area.
+    tells-same _ _ _ (c .before .before .before .before .before .before .opening .ensures) _ (c .before .before .before .before .before .if1 .taken) refl
+    (c .before .set-value .ensures words fixed area) (c .number .ensures)
+
+unread-requires : tie.Need-unread-requires
+unread-requires c κs = search needs
+
+returns-2 : tie.Need-returns-2
+returns-2 c = λ words fixed area. tells-away _ _ (c .before .before .opening .ensures) (c .before .if1 .left) _ (c .unread .ensures)
+
+pub osturdam-set-value-spec : {M : Type 1} → statement M
+osturdam-set-value-spec =
+    tie.close
+    (tie.spec
+    opening-requires
+    set-value-requires
+    number-requires
+    returns
+    unread-requires
+    returns-2)

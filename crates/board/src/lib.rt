@@ -1,0 +1,421 @@
+// The C interface: one call an event, over numbers and arrays that the caller owns. No enum crosses it, so that every pattern of
+// the kept numbers means something, and numbers that no unit writes are turned away: by 18 where the buffer is short, else by 17.
+use frames::outcomes::number;
+use model::Action;
+use model::Answer;
+use model::File;
+use model::Input;
+use model::Outcome;
+use model::Reply;
+use model::SpecialCalculation;
+use model::Stored;
+use numbers::numbers;
+use numbers::opening;
+ghost use mathlib.Core.Path.{_≡_};
+ghost use mathlib.Core.List.{List};
+ghost use mathlib.Core.Bool.{cond};
+ghost use Prim.Native.Nat.{ℕ};
+ghost use lib.ListN.{length};
+ghost use Rattle.model.specs.Step.{elapsed, setWord, setValue, pulses, store};
+ghost use Rattle.model.specs.Outcome.{numberOf, storedNumber, answerNumber};
+ghost use Rattle.judge.specs.Judged.{configOf};
+ghost use Rattle.board.specs.Told.{ownedOf, turnedBy, Serves, Tells, Freshly};
+
+// How a stretch ended: how many characters of the buffer are to be sent, the outcome's number, and what the control outputs do.
+#[repr(C)]
+pub struct Turned {
+    pub sent: usize,
+    pub outcome: u8,
+    pub action: u8,
+    pub output: u8,
+}
+
+fn stored_number(stored: Stored) -> u8
+    ensures { λ r. ⌜ r ≡ storedNumber stored ⌝ }
+{
+    match stored {
+        Stored::Kept => 0,
+        Stored::Full => 1,
+        Stored::NotEquipped => 2,
+        Stored::WrongValues => 3,
+    }
+}
+
+fn answer_number(answer: Answer) -> u8
+    ensures { λ r. ⌜ r ≡ answerNumber answer ⌝ }
+{
+    match answer {
+        Answer::Ended(outcome) => number(outcome),
+        Answer::Storing(stored) => stored_number(stored),
+    }
+}
+
+// How numbers that no unit writes are answered.
+fn unread() -> u8
+    ensures { λ r. ⌜ r ≡ numberOf Outcome.NotConfigured ⌝ }
+{
+    number(Outcome::NotConfigured)
+}
+
+fn shown(sent: usize, outcome: Outcome, action: Action) -> Turned
+    ensures { λ r. ⌜ r ≡ turnedBy sent outcome action ⌝ }
+{
+    match action {
+        Action::Rest => Turned {
+            sent: sent,
+            outcome: number(outcome),
+            action: 0,
+            output: 0,
+        },
+        Action::Operate { output, close } => Turned {
+            sent: sent,
+            outcome: number(outcome),
+            action: operated(close),
+            output: output.0,
+        },
+    }
+}
+
+fn operated(close: bool) -> u8
+    ensures { λ r. ⌜ r ≡ cond close 2 1 ⌝ }
+{
+    if close {
+        return 2;
+    }
+    1
+}
+
+#[no_mangle]
+pub extern "C" fn osturdam_fresh(
+    kept: &mut [u16; 26],
+    words: &mut [u16; 256],
+    results: &mut [u32; 128],
+    fixed: &mut [u8; 528],
+    block: &mut [u8],
+    counts: &mut [u8; 32],
+)
+    ensures { λ _. ⌜ Freshly (length (now (block .entry))) (now (kept .exit)) (now (words .exit)) (now (results .exit)) (now (fixed .exit)) (now (block .exit)) (now (counts .exit)) ⌝ }
+{
+    *kept = numbers(unit::fresh_core(), unit::fresh_memory(), unit::fresh_port());
+    unit::clear(words, results, fixed, block, counts);
+}
+
+#[no_mangle]
+pub extern "C" fn osturdam_stretch<'a>(
+    unit: u16,
+    length: usize,
+    inputs: &'a [u8; 256],
+    outputs: &'a [u8; 256],
+    calculations: &'a [u8; 256],
+    files: &'a [u8; 32],
+    values: &'a [u8; 32],
+    kept: &mut [u16; 26],
+    words: &mut [u16; 256],
+    results: &'a [u32; 128],
+    fixed: &mut [u8; 528],
+    block: &mut [u8],
+    area: &mut [u8; 38912],
+    counts: &mut [u8; 32],
+    buffer: &mut [u8],
+    s: &'a [u8],
+) -> Turned
+    ensures { λ r. ⌜ Serves
+        (configOf unit length (now (inputs .entry)) (now (outputs .entry)) (now (calculations .entry)) (now (files .entry)) (now (values .entry)))
+        (now (s .entry))
+        (ownedOf (now (kept .entry)) (now (words .entry)) (now (results .entry)) (now (fixed .entry)) (now (block .entry)) (now (area .entry)) (now (counts .entry)))
+        (ownedOf (now (kept .exit)) (now (words .exit)) (now (results .entry)) (now (fixed .exit)) (now (block .exit)) (now (area .exit)) (now (counts .exit)))
+        (now (buffer .entry)) (now (buffer .exit)) r ⌝ }
+{
+    let found = opening(kept);
+    if found.readable {
+        let core = found.core;
+        let memory = found.memory;
+        let port = found.port;
+        let turn = unit::stretch(
+            unit,
+            length,
+            inputs,
+            outputs,
+            calculations,
+            files,
+            values,
+            core,
+            memory,
+            port,
+            words,
+            results,
+            fixed,
+            block,
+            area,
+            counts,
+            buffer,
+            s,
+        );
+        let next = turn.core;
+        let remembered = turn.memory;
+        let line = turn.port;
+        *kept = numbers(next, remembered, line);
+        let outcome = turn.outcome;
+        let action = turn.action;
+        return shown(turn.sent, outcome, action);
+    }
+    if buffer.len() < Reply::LONGEST {
+        return shown(0, Outcome::BufferShort, Action::Rest);
+    }
+    shown(0, Outcome::NotConfigured, Action::Rest)
+}
+
+#[no_mangle]
+pub extern "C" fn osturdam_elapsed<'a>(
+    unit: u16,
+    length: usize,
+    inputs: &'a [u8; 256],
+    outputs: &'a [u8; 256],
+    calculations: &'a [u8; 256],
+    files: &'a [u8; 32],
+    values: &'a [u8; 32],
+    kept: &mut [u16; 26],
+    block: &'a [u8],
+    counts: &'a [u8; 32],
+    ms: u32,
+) -> u8
+    ensures { λ r. ⌜ ((words results fixed area : List ℕ) → Tells
+        (configOf unit length (now (inputs .entry)) (now (outputs .entry)) (now (calculations .entry)) (now (files .entry)) (now (values .entry)))
+        (elapsed ms)
+        (ownedOf (now (kept .entry)) words results fixed (now (block .entry)) area (now (counts .entry)))
+        (ownedOf (now (kept .exit)) words results fixed (now (block .entry)) area (now (counts .entry)))
+        r) ⌝ }
+{
+    let found = opening(kept);
+    if found.readable {
+        let core = found.core;
+        let memory = found.memory;
+        let port = found.port;
+        let passed = events::elapsed(
+            unit,
+            length,
+            inputs,
+            outputs,
+            calculations,
+            files,
+            values,
+            core,
+            memory,
+            port,
+            block,
+            counts,
+            ms,
+        );
+        let next = passed.core;
+        let line = passed.port;
+        *kept = numbers(next, memory, line);
+        let outcome = passed.outcome;
+        return number(outcome);
+    }
+    unread()
+}
+
+#[no_mangle]
+pub extern "C" fn osturdam_set_word<'a>(
+    unit: u16,
+    length: usize,
+    inputs: &'a [u8; 256],
+    outputs: &'a [u8; 256],
+    calculations: &'a [u8; 256],
+    files: &'a [u8; 32],
+    values: &'a [u8; 32],
+    kept: &'a [u16; 26],
+    words: &mut [u16; 256],
+    block: &'a [u8],
+    counts: &'a [u8; 32],
+    input: u8,
+    word: u16,
+) -> u8
+    ensures { λ r. ⌜ ((results fixed area : List ℕ) → Tells
+        (configOf unit length (now (inputs .entry)) (now (outputs .entry)) (now (calculations .entry)) (now (files .entry)) (now (values .entry)))
+        (setWord (record { 0 = input }) word)
+        (ownedOf (now (kept .entry)) (now (words .entry)) results fixed (now (block .entry)) area (now (counts .entry)))
+        (ownedOf (now (kept .entry)) (now (words .exit)) results fixed (now (block .entry)) area (now (counts .entry)))
+        r) ⌝ }
+{
+    let found = opening(kept);
+    if found.readable {
+        let core = found.core;
+        let memory = found.memory;
+        let port = found.port;
+        let outcome = events::set_word(
+            unit,
+            length,
+            inputs,
+            outputs,
+            calculations,
+            files,
+            values,
+            core,
+            memory,
+            port,
+            words,
+            block,
+            counts,
+            Input(input),
+            word,
+        );
+        return number(outcome);
+    }
+    unread()
+}
+
+#[no_mangle]
+pub extern "C" fn osturdam_pulses<'a>(
+    unit: u16,
+    length: usize,
+    inputs: &'a [u8; 256],
+    outputs: &'a [u8; 256],
+    calculations: &'a [u8; 256],
+    files: &'a [u8; 32],
+    values: &'a [u8; 32],
+    kept: &'a [u16; 26],
+    words: &mut [u16; 256],
+    block: &'a [u8],
+    counts: &'a [u8; 32],
+    accumulator: u8,
+    count: u16,
+) -> u8
+    ensures { λ r. ⌜ ((results fixed area : List ℕ) → Tells
+        (configOf unit length (now (inputs .entry)) (now (outputs .entry)) (now (calculations .entry)) (now (files .entry)) (now (values .entry)))
+        (pulses (record { 0 = accumulator }) count)
+        (ownedOf (now (kept .entry)) (now (words .entry)) results fixed (now (block .entry)) area (now (counts .entry)))
+        (ownedOf (now (kept .entry)) (now (words .exit)) results fixed (now (block .entry)) area (now (counts .entry)))
+        r) ⌝ }
+{
+    let found = opening(kept);
+    if found.readable {
+        let core = found.core;
+        let memory = found.memory;
+        let port = found.port;
+        let outcome = events::pulses(
+            unit,
+            length,
+            inputs,
+            outputs,
+            calculations,
+            files,
+            values,
+            core,
+            memory,
+            port,
+            words,
+            block,
+            counts,
+            Input(accumulator),
+            count,
+        );
+        return number(outcome);
+    }
+    unread()
+}
+
+#[no_mangle]
+pub extern "C" fn osturdam_set_value<'a>(
+    unit: u16,
+    length: usize,
+    inputs: &'a [u8; 256],
+    outputs: &'a [u8; 256],
+    calculations: &'a [u8; 256],
+    files: &'a [u8; 32],
+    values: &'a [u8; 32],
+    kept: &'a [u16; 26],
+    results: &mut [u32; 128],
+    block: &'a [u8],
+    counts: &'a [u8; 32],
+    calculation: u8,
+    value: u32,
+) -> u8
+    ensures { λ r. ⌜ ((words fixed area : List ℕ) → Tells
+        (configOf unit length (now (inputs .entry)) (now (outputs .entry)) (now (calculations .entry)) (now (files .entry)) (now (values .entry)))
+        (setValue (record { 0 = calculation }) value)
+        (ownedOf (now (kept .entry)) words (now (results .entry)) fixed (now (block .entry)) area (now (counts .entry)))
+        (ownedOf (now (kept .entry)) words (now (results .exit)) fixed (now (block .entry)) area (now (counts .entry)))
+        r) ⌝ }
+{
+    let found = opening(kept);
+    if found.readable {
+        let core = found.core;
+        let memory = found.memory;
+        let port = found.port;
+        let outcome = events::set_value(
+            unit,
+            length,
+            inputs,
+            outputs,
+            calculations,
+            files,
+            values,
+            core,
+            memory,
+            port,
+            results,
+            block,
+            counts,
+            SpecialCalculation(calculation),
+            value,
+        );
+        return number(outcome);
+    }
+    unread()
+}
+
+#[no_mangle]
+pub extern "C" fn osturdam_store_record<'a>(
+    unit: u16,
+    length: usize,
+    inputs: &'a [u8; 256],
+    outputs: &'a [u8; 256],
+    calculations: &'a [u8; 256],
+    files: &'a [u8; 32],
+    values: &'a [u8; 32],
+    kept: &mut [u16; 26],
+    block: &'a [u8],
+    area: &mut [u8; 38912],
+    counts: &mut [u8; 32],
+    file: u8,
+    event: u8,
+    given: &'a [u16],
+) -> u8
+    ensures { λ r. ⌜ ((words results fixed : List ℕ) → Tells
+        (configOf unit length (now (inputs .entry)) (now (outputs .entry)) (now (calculations .entry)) (now (files .entry)) (now (values .entry)))
+        (store (record { 0 = file }) event (now (given .entry)))
+        (ownedOf (now (kept .entry)) words results fixed (now (block .entry)) (now (area .entry)) (now (counts .entry)))
+        (ownedOf (now (kept .exit)) words results fixed (now (block .entry)) (now (area .exit)) (now (counts .exit)))
+        r) ⌝ }
+{
+    let found = opening(kept);
+    if found.readable {
+        let core = found.core;
+        let memory = found.memory;
+        let port = found.port;
+        let storage = events::store_record(
+            unit,
+            length,
+            inputs,
+            outputs,
+            calculations,
+            files,
+            values,
+            core,
+            memory,
+            port,
+            block,
+            area,
+            counts,
+            File(file),
+            event,
+            given,
+        );
+        let next = storage.core;
+        *kept = numbers(next, memory, port);
+        let answer = storage.answer;
+        return answer_number(answer);
+    }
+    unread()
+}
