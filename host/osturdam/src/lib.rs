@@ -1,0 +1,58 @@
+//! The proved remote unit of the Cooper 2179 serial protocol, behind a safe interface.
+//!
+//! A [`Unit`] owns its memory and its [`Config`]. It has no clock and no port of its own: the caller hands over each stretch of
+//! characters between two idle marks, the milliseconds that passed, and what happens locally. Every call takes every input and
+//! tells by an [`Outcome`] what it made of it; none panics. Two units do not touch.
+//!
+//! ```
+//! use osturdam::{Action, Config, Input, Outcome, Unit, REPLY};
+//!
+//! // unit 1234 with a simple status and an accumulator
+//! let mut unit = Unit::fresh(Config::new(1234).input(Input(0x30)).input(Input(0x40)));
+//! assert_eq!(unit.set_word(Input(0x30), 0x8001), Outcome::Done);
+//!
+//! // master 1 asks for both by function 00
+//! let mut buffer = [0; REPLY];
+//! let turn = unit.stretch(&[0xD2, 0x0C, 0x00, 0x41, 0x00, 0x00, 0x52, 0x67], &mut buffer);
+//! assert_eq!((turn.outcome, turn.action), (Outcome::Done, Action::Rest));
+//! assert_eq!(turn.reply[7..11], [0x01, 0x80, 0x00, 0x00]);
+//!
+//! // store the unit, then send
+//! let saved = unit.to_bytes();
+//! assert_eq!(Unit::from_bytes(unit.config().clone(), &saved).to_bytes(), saved);
+//! ```
+//!
+//! The static library is looked for in the folder that the environment variable `BOARD_LIB` names while building, or else where
+//! the toolchain leaves it.
+#![deny(missing_docs, unsafe_op_in_unsafe_fn)]
+#![deny(unsafe_code)]
+
+mod config;
+mod kept;
+mod memory;
+mod numbers;
+mod outcome;
+mod raw;
+mod unit;
+
+pub use config::Config;
+pub use kept::{Clock, HistoryReply, Hold, Kept, Mark, Memory, Pending, Port, Select, View, Write};
+pub use numbers::{ControlOutput, File, Input, Master, Ordinal, SpecialCalculation};
+pub use outcome::{Action, Outcome, Stored, Turn};
+pub use unit::Unit;
+
+/// The numbers of the C header, taken over by the build.
+mod header {
+    include!(concat!(env!("OUT_DIR"), "/header.rs"));
+}
+
+/// The longest frame of a master.
+pub const FRAME: usize = header::FRAME as usize;
+/// The longest reply, and the shortest buffer that a stretch is served with.
+pub const REPLY: usize = header::REPLY as usize;
+/// The longest parameter block.
+pub const BLOCK: usize = header::BLOCK as usize;
+/// How many records a file holds.
+pub const ROOM: usize = header::ROOM as usize;
+/// The most values in a record.
+pub const VALUES: usize = header::VALUES as usize;
