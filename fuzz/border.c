@@ -1,0 +1,193 @@
+/* A run of events over the C interface from any bytes: a configuration, a kept state that may be any, then events of any lengths.
+ * fuzz/seeds.py writes such bytes and has their layout. */
+#include "call.h"
+#include "lent.h"
+#include "line.h"
+#include "osturdam.h"
+
+#include <stdlib.h>
+
+enum { MOST_EVENTS = 48, AGAIN = 509 };
+enum flags { ANY_CONFIG = 1, ANY_STATE = 2, NULLS = 4 };
+enum to { OWN, ALL, ANOTHER };
+
+/* Functions with the commands that they have; below the high nibble of a file's or table's command any file or table. */
+static const uint8_t commands[][2] = {
+    { 0x00, 0x41 }, { 0x00, 0x4D }, { 0x03, 0x00 }, { 0x03, 0x80 }, { 0x04, 0x00 }, { 0x04, 0x20 }, { 0x04, 0x40 }, { 0x04, 0x60 },
+    { 0x0A, 0x40 }, { 0x10, 0x10 }, { 0x10, 0x11 }, { 0x10, 0x20 }, { 0x10, 0x21 }, { 0x20, 0x00 }, { 0x20, 0x11 }, { 0x20, 0x30 },
+    { 0x20, 0x31 }, { 0x20, 0x38 }, { 0x28, 0x30 }, { 0x28, 0x31 },
+};
+enum { COMMANDS = sizeof commands / sizeof commands[0] };
+
+static const uint8_t *input;
+static size_t left;
+
+int LLVMFuzzerTestOneInput(const uint8_t *data, size_t size);
+
+/* The next number of the input; 0 behind its end. */
+static unsigned next(int chars)
+{
+    unsigned number = 0;
+    for (int i = 0; i < chars && left > 0; i++, left--)
+        number |= (unsigned)*input++ << 8 * i;
+    return number;
+}
+
+static unsigned mixed(unsigned seed, unsigned n)
+{
+    unsigned x = (seed ^ n * 2654435761u) * 2246822519u;
+    return (x ^ x >> 15) * 3266489917u >> 24;
+}
+
+/* Characters that look like chance, the same again after a while: long areas are filled quickly. */
+static void fill(enum part part, unsigned seed)
+{
+    size_t length = lent[part].length, own = length < AGAIN ? length : AGAIN;
+    for (size_t i = 0; i < own; i++)
+        lent[part].at[i] = (uint8_t)mixed(seed + (unsigned)part, (unsigned)i);
+    for (size_t i = own; i < length; i += own)
+        memcpy(lent[part].at + i, lent[part].at, length - i < own ? length - i : own);
+}
+
+/* A table in which as many of the numbers from `low` to `high` are equipped as the density says. */
+static void equip(enum part part, unsigned seed, unsigned density, unsigned low, unsigned high)
+{
+    for (unsigned n = low; n < high; n++)
+        lent[part].at[n] = mixed(seed + (unsigned)part, n) <= density ? 1 : 0;
+}
+
+static void configure(unsigned seed, unsigned density)
+{
+    for (enum part part = INPUTS; part <= VALUES; part++)
+        memset(lent[part].at, 0, lent[part].length);
+    equip(INPUTS, seed, density, 0x00, 0x20);
+    equip(INPUTS, seed, density, 0x30, 0x60);
+    equip(INPUTS, seed, density, 0x80, 0x100);
+    equip(OUTPUTS, seed, density, 0, OSTURDAM_INPUTS);
+    equip(CALCULATIONS, seed, density, 0, OSTURDAM_CALCULATIONS);
+    equip(FILES, seed, density, 0, OSTURDAM_FILES);
+    for (unsigned f = 0; f < OSTURDAM_FILES; f++)
+        lent[VALUES].at[f] = (uint8_t)(1 + mixed(seed, f) % OSTURDAM_VALUES);
+}
+
+static void begin(struct call *c)
+{
+    unsigned flags = next(1), density = next(1), unit = next(2), length = next(2), room = next(2), seed = next(4);
+    bool any = (flags & ANY_CONFIG) != 0;
+    c->nulls = (flags & NULLS) != 0;
+    c->unit = (uint16_t)(any ? unit : unit % LINE_BROADCAST);
+    c->length = any ? length : length % (OSTURDAM_BLOCK + 1);
+    lent_place(BLOCK, c->length <= lent_most(BLOCK) ? c->length : 0);
+    lent_place(BUFFER, room % (lent_most(BUFFER) + 1));
+    lent_place(STRETCH, 0);
+    lent_place(GIVEN, 0);
+    configure(seed, density);
+    for (enum part part = INPUTS; any && part <= VALUES; part++)
+        fill(part, seed);
+    for (enum part part = KEPT; part <= BUFFER; part++)
+        fill(part, seed);
+    if ((flags & ANY_STATE) == 0)
+        osturdam_fresh((struct osturdam_kept *)lent[KEPT].at, (uint16_t *)lent[WORDS].at, (uint32_t *)lent[RESULTS].at, lent[FIXED].at,
+                       lent[BLOCK].at, lent[BLOCK].length, lent[COUNTS].at);
+}
+
+static void read_chars(uint8_t *place, size_t many)
+{
+    for (size_t i = 0; i < many; i++)
+        place[i] = (uint8_t)next(1);
+}
+
+/* A frame with the right check, mostly of a known command and mostly to this unit. */
+static void read_frame(struct call *c)
+{
+    static uint8_t data[0xFF], frame[sizeof data + 8];
+    unsigned whom = next(1), chosen = next(1), low = next(1), many = next(1);
+    unsigned function = chosen < 0xF0 ? commands[chosen % COMMANDS][0] : low;
+    unsigned command = chosen < 0xF0 ? commands[chosen % COMMANDS][1] : next(1);
+    if (chosen < 0xF0 && (function == 0x04 || function == 0x0A))
+        command |= low & 0x1F;
+    unsigned unit = whom >> 5 == ALL ? LINE_BROADCAST : whom >> 5 == ANOTHER ? c->unit ^ 1u : c->unit;
+    read_chars(data, many);
+    size_t length = line_frame(frame, unit & 0x7FF, whom & 0x1F, function, command, data, many);
+    lent_place(STRETCH, length);
+    memcpy(lent[STRETCH].at, frame, length);
+    c->kind = HEAR;
+}
+
+static void read_stretch(struct call *c)
+{
+    lent_place(STRETCH, next(2) % (lent_most(STRETCH) + 1));
+    read_chars(lent[STRETCH].at, lent[STRETCH].length);
+    c->kind = HEAR;
+}
+
+/* A record, mostly with as many values as its file has. */
+static void read_record(struct call *c)
+{
+    c->number = (uint8_t)next(1);
+    c->event = (uint8_t)next(1);
+    unsigned chosen = next(1), own = c->number < OSTURDAM_FILES ? lent[VALUES].at[c->number] : 0;
+    size_t many = chosen < 0xC0 && own <= OSTURDAM_VALUES ? own : chosen % (lent_most(GIVEN) / sizeof(uint16_t) + 1);
+    lent_place(GIVEN, many * sizeof(uint16_t));
+    fill(GIVEN, chosen);
+    c->kind = STORE;
+}
+
+static void read_local(struct call *c, enum kind kind)
+{
+    c->kind = kind;
+    c->number = kind == ELAPSE ? 0 : (uint8_t)next(1);
+    c->value = next(kind == ELAPSE || kind == SET_VALUE ? 4 : 2);
+}
+
+/* One character or one kept number becomes any. */
+static void read_change(unsigned what)
+{
+    static const enum part of[] = { INPUTS, CALCULATIONS, FILES, VALUES, COUNTS, FIXED, AREA, BLOCK };
+    enum part part = what == 0 ? KEPT : of[next(1) % (sizeof of / sizeof of[0])];
+    size_t wide = what == 0 ? 2 : 1, places = lent[part].length / wide;
+    unsigned place = next(2), number = next((int)wide);
+    if (places > 0)
+        memcpy(lent[part].at + place % places * wide, &number, wide); /* little-endian, as the library's processor is */
+}
+
+/* Another room, or another length of what is lent as the parameter block. */
+static void read_lengths(void)
+{
+    enum part part = next(1) % 4 == 0 ? BLOCK : BUFFER;
+    lent_place(part, next(2) % (lent_most(part) + 1));
+    fill(part, 0);
+}
+
+/* Answers whether the event is one for the library. */
+static bool read_event(struct call *c)
+{
+    unsigned kind = next(1) % 16;
+    switch (kind) {
+    case 6: read_stretch(c); return true;
+    case 7: read_local(c, ELAPSE); return true;
+    case 8: read_local(c, SET_WORD); return true;
+    case 9: read_local(c, PULSE); return true;
+    case 10: read_local(c, SET_VALUE); return true;
+    case 11:
+    case 12: read_record(c); return true;
+    case 13: read_change(0); return false;
+    case 14: read_change(1); return false;
+    case 15: read_lengths(); return false;
+    default: read_frame(c); return true;
+    }
+}
+
+int LLVMFuzzerTestOneInput(const uint8_t *data, size_t size)
+{
+    struct call c = { HEAR, 0, 0, false, 0, 0, 0 };
+    if (lent[KEPT].at == NULL)
+        lent_begin();
+    input = data;
+    left = size;
+    begin(&c);
+    for (int i = 0; i < MOST_EVENTS && left > 0; i++)
+        if (read_event(&c))
+            call_checked(&c);
+    return 0;
+}

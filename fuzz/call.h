@@ -1,0 +1,28 @@
+/* One call of the library over what is lent, with all that must hold of it. */
+#ifndef CALL_H
+#define CALL_H
+
+#include <stdbool.h>
+#include <stddef.h>
+#include <stdint.h>
+
+enum kind { HEAR, ELAPSE, SET_WORD, PULSE, SET_VALUE, STORE };
+
+struct call {
+    enum kind kind;
+    uint16_t unit;
+    size_t length;
+    bool nulls;      /* parts of no length are lent as null */
+    uint8_t number;  /* of an input, calculation or file */
+    uint8_t event;
+    uint32_t value;  /* milliseconds, word, count or value */
+};
+
+/* Calls twice from the same memory and checks; what fails is printed and ends the program. */
+void call_checked(const struct call *c);
+
+/* How many calls were checked, and how many of the outcomes that a stretch can have were among their answers. */
+unsigned long call_count(void);
+int call_outcomes(void);
+
+#endif
