@@ -1,0 +1,269 @@
+//! Calls of one function: whole and damaged, with right and wrong data, about the state as it stands.
+
+use crate::aims::Aim;
+use crate::event::Event;
+use crate::frames::{damaged, Draft};
+use crate::pair::{Pair, ROOM};
+use crate::rng::Rng;
+use crate::shapes;
+use independent::Config;
+
+/// The address that speaks to every unit.
+const BROADCAST: u16 = 0x7FF;
+
+/// One call of the function.
+pub fn call(rng: &mut Rng, pair: &Pair, aim: Aim) -> Event {
+    let c = &pair.config;
+    match aim {
+        Aim::Elapsed => Event::Elapsed(elapsed(rng, pair)),
+        Aim::SetWord => Event::Word(number(rng, &c.inputs), rng.word()),
+        Aim::SetValue => Event::Value(number(rng, &c.calculations), rng.long()),
+        Aim::Pulses => Event::Pulses(accumulator(rng, c), count(rng)),
+        Aim::Store => store(rng, c),
+        _ => {
+            let draft = draft(rng, pair, aim);
+            sent(rng, draft)
+        }
+    }
+}
+
+/// Mostly an equipped number, else any.
+fn number(rng: &mut Rng, equipped: &[bool; 256]) -> u8 {
+    let start = rng.byte();
+    if rng.percent(15) {
+        return start;
+    }
+    (0..=255)
+        .map(|i| start.wrapping_add(i))
+        .find(|&n| equipped[usize::from(n)])
+        .unwrap_or(start)
+}
+
+/// Mostly an equipped accumulator.
+fn accumulator(rng: &mut Rng, c: &Config) -> u8 {
+    let start = rng.below(32) as u8;
+    let found = (0..32)
+        .map(|i| 0x40 + (start + i) % 32)
+        .find(|&n| c.inputs[usize::from(n)]);
+    match found {
+        Some(n) if rng.percent(85) => n,
+        _ => number(rng, &c.inputs),
+    }
+}
+
+fn count(rng: &mut Rng) -> u16 {
+    let any = rng.word();
+    rng.pick(&[0, 1, 65_535, any, any])
+}
+
+fn file(rng: &mut Rng, c: &Config) -> u8 {
+    let start = rng.below(32);
+    let found = (0..32)
+        .map(|i| (start + i) % 32)
+        .find(|&f| c.files[f].is_some());
+    match found {
+        Some(f) if rng.percent(90) => f as u8,
+        _ => start as u8,
+    }
+}
+
+fn store(rng: &mut Rng, c: &Config) -> Event {
+    let file = if rng.percent(3) {
+        rng.pick(&[32, 33, 64, 255])
+    } else {
+        file(rng, c)
+    };
+    let right = usize::from(c.file_values(file).unwrap_or(1));
+    let many = match rng.below(12) {
+        0 => rng.pick(&[0, 16, 17, 40, right.saturating_sub(1), right + 1]),
+        _ => right,
+    };
+    let values = (0..many).map(|_| rng.word()).collect();
+    Event::Store {
+        file,
+        event: rng.byte(),
+        values,
+    }
+}
+
+/// Just to, just before and just past each limit of time, or any time.
+fn elapsed(rng: &mut Rng, pair: &Pair) -> u32 {
+    let k = pair.unit.kept.map(u32::from);
+    let of_day = ((k[1] * 60 + k[2]) * 60 + k[3]) * 1000 + k[4];
+    let limit = match rng.below(9) {
+        0 => 5000_u32.saturating_sub(k[9]),
+        1 => 5000_u32.saturating_sub(k[14]),
+        2 => 60_000_u32.saturating_sub(k[24]),
+        3 => 86_400_000_u32.saturating_sub(of_day),
+        4 => rng.pick(&[0, 5000, 60_000, 86_400_000, u32::MAX]),
+        5 => return rng.long(),
+        _ => return rng.below(3000) as u32,
+    };
+    rng.pick(&[limit.saturating_sub(1), limit, limit.saturating_add(1)])
+}
+
+/// A frame of the function as a master would send it.
+fn draft(rng: &mut Rng, pair: &Pair, aim: Aim) -> Draft {
+    let c = &pair.config;
+    let low = rng.pick(&[1, 1, 2, 3, 4, 15]);
+    let (function, command, data) = match aim {
+        Aim::Inputs => (0x00, rng.byte() & 0x4D, vec![]),
+        Aim::Tables => (0x0A, 0x40 + rng.between(1, low) as u8, vec![]),
+        Aim::AllValues => (0x03, 0x80, vec![]),
+        Aim::AskedValues => (0x03, 0x00, asked(rng, c)),
+        Aim::Control => control(rng, c),
+        Aim::Initialise => (0x20, 0x00, vec![]),
+        Aim::ResetCount => (0x20, 0x11, vec![accumulator(rng, c)]),
+        Aim::Write => (0x20, 0x30, place(rng, pair, 5)),
+        Aim::Execute => (0x20, 0x31, executed(rng, pair)),
+        Aim::SetTime => (0x20, 0x38, time(rng)),
+        Aim::Read => (0x28, 0x30, read(rng, pair)),
+        Aim::ReadTime => (0x28, 0x31, vec![]),
+        _ => (0x04, history(rng, pair), vec![]),
+    };
+    Draft {
+        master: master(rng, pair, aim),
+        unit: c.unit,
+        function,
+        command,
+        data,
+    }
+}
+
+/// Half the time the master whose select, write or history reply the function is about.
+fn master(rng: &mut Rng, pair: &Pair, aim: Aim) -> u8 {
+    let s = &pair.state;
+    let concerned = match aim {
+        Aim::Control => s.select.map(|x| x.master).or(s.timed_out),
+        Aim::Write | Aim::Execute => s.write.map(|x| x.master),
+        Aim::History => s.history.map(|x| x.master),
+        _ => None,
+    };
+    match concerned {
+        Some(master) if rng.flip() => master & 31,
+        _ if rng.percent(2) => rng.below(32) as u8,
+        _ => shapes::master(rng, pair.config.unit),
+    }
+}
+
+/// Numbers of calculations: often just as many as fit, seldom some that are not equipped.
+fn asked(rng: &mut Rng, c: &Config) -> Vec<u8> {
+    let any = rng.between(1, 128);
+    let many = rng.pick(&[1, 2, 3, 10, any, 101, 102, 103, 128]);
+    let stray = rng.percent(15);
+    let equipped: Vec<u8> = (0..128)
+        .filter(|&n| c.calculations[usize::from(n)])
+        .collect();
+    let mut one = || match rng.pick_any(&equipped) {
+        Some(n) if !(stray && rng.percent(30)) => n,
+        _ => rng.byte(),
+    };
+    (0..many).map(|_| one()).collect()
+}
+
+fn control(rng: &mut Rng, c: &Config) -> (u8, u8, Vec<u8>) {
+    match rng.below(8) {
+        0..2 => (0x10, 0x10, vec![number(rng, &c.outputs)]),
+        2..4 => (0x10, 0x11, vec![number(rng, &c.outputs)]),
+        4..7 => (0x10, 0x20, vec![]),
+        _ => (0x10, 0x21, vec![]),
+    }
+}
+
+/// Bias and ordinal.
+fn place(rng: &mut Rng, pair: &Pair, count: usize) -> Vec<u8> {
+    let (bias, ordinal) = shapes::place(rng, &pair.equipment, count);
+    let [low, high] = bias.to_le_bytes();
+    vec![low, high, ordinal]
+}
+
+/// Characters for the write that waits: often up to its block's end, or one further.
+fn executed(rng: &mut Rng, pair: &Pair) -> Vec<u8> {
+    let any = rng.between(1, 128);
+    let waits = pair.state.write.and_then(|w| {
+        let length = shapes::block_length(w.ordinal, &pair.equipment)?;
+        length.checked_sub(w.bias.into())
+    });
+    let left = waits.unwrap_or(any);
+    let many = rng.pick(&[1, 2, any, left, left + 1, 128]).clamp(1, 128);
+    rng.bytes(many)
+}
+
+/// A valid time, often with one character changed.
+fn time(rng: &mut Rng) -> Vec<u8> {
+    let mut made = shapes::clock(rng).characters();
+    if rng.percent(40) {
+        let i = rng.below(7);
+        let any = rng.byte();
+        made[i] = rng.pick(&[
+            any,
+            made[i] ^ 0x80,
+            made[i].wrapping_add(1),
+            0x24,
+            0x60,
+            0x67,
+            0x0A,
+            0x00,
+        ]);
+    }
+    made.to_vec()
+}
+
+fn read(rng: &mut Rng, pair: &Pair) -> Vec<u8> {
+    let any = rng.byte();
+    let quantity = rng.pick(&[0, 1, 16, 254, 255, any, any]);
+    let mut data = place(rng, pair, quantity.into());
+    data.push(quantity);
+    data
+}
+
+/// A command of function 04: often about the file and the kind of the latest reply.
+fn history(rng: &mut Rng, pair: &Pair) -> u8 {
+    let kind = rng.byte() & 0x60;
+    match pair.state.history {
+        Some(h) if rng.percent(40) => kind & 0x40 | u8::from(h.dump) << 5 | h.file & 0x1F,
+        _ => kind | file(rng, &pair.config),
+    }
+}
+
+/// What the line makes of a frame: most come whole, some to others, some wrong in one thing.
+fn sent(rng: &mut Rng, mut draft: Draft) -> Event {
+    let mut room = rng.between(520, ROOM);
+    match rng.below(100) {
+        0..3 => draft.unit ^= 1 << rng.below(11),
+        3..7 => draft.unit = BROADCAST,
+        7..9 => draft.function |= rng.pick(&[0x40, 0x80, 0xC0]),
+        9 => draft.function = rng.byte(),
+        10..12 => draft.command = rng.byte(),
+        12..16 => draft.data = recounted(rng, &draft.data),
+        16..20 => {
+            return Event::Stretch {
+                bytes: damaged(rng, &draft),
+                room,
+            }
+        }
+        20..22 => room = rng.pick(&[0, 1, 519, room - 520]),
+        22 => room = rng.below(520),
+        _ => {}
+    }
+    Event::Stretch {
+        bytes: draft.bytes(),
+        room,
+    }
+}
+
+/// Data of another length.
+fn recounted(rng: &mut Rng, data: &[u8]) -> Vec<u8> {
+    let any = rng.below(129);
+    let many = rng.pick(&[
+        0,
+        data.len().saturating_sub(1),
+        (data.len() + 1).min(128),
+        any,
+        128,
+    ]);
+    let mut made = rng.bytes(many);
+    let same = many.min(data.len());
+    made[..same].copy_from_slice(&data[..same]);
+    made
+}

@@ -1,0 +1,163 @@
+//! Runs the proved unit and the independent one side by side and compares everything.
+//!
+//! usage: compare [--seed N] [--events N] [--calls N] [--break]
+
+mod aims;
+mod bends;
+mod board;
+mod calls;
+mod event;
+mod faults;
+mod frames;
+mod image;
+mod pair;
+mod raw;
+mod reduce;
+mod report;
+mod rng;
+mod runs;
+mod scene;
+mod seen;
+mod shapes;
+mod stirs;
+mod tally;
+
+use aims::{Aim, AIMS};
+use faults::{Fault, FAULTS};
+use rng::Rng;
+use runs::run;
+use std::process::ExitCode;
+use std::time::Instant;
+use tally::Tally;
+
+/// The parts of the comparison that are no function's own; functions follow from 1.
+const RUNS: u64 = 0;
+const RAW: u64 = 100;
+const BROKEN: u64 = 200;
+/// Calls with raw patterns, and how many of them share a unit.
+const RAW_CALLS: usize = 10_000;
+const RAW_SHARE: usize = 50;
+/// A planted fault is found in as many runs.
+const FIND_WITHIN: u64 = 2_000;
+
+/// What the command line asks for.
+struct Settings {
+    seed: u64,
+    events: u64,
+    calls: u64,
+    broken: bool,
+}
+
+fn settings() -> Result<Settings, String> {
+    let mut made = Settings {
+        seed: 2179,
+        events: 200_000,
+        calls: 100_000,
+        broken: false,
+    };
+    let mut words = std::env::args().skip(1);
+    while let Some(word) = words.next() {
+        let mut number = || {
+            words
+                .next()
+                .and_then(|w| w.parse().ok())
+                .ok_or(format!("{word} wants a number"))
+        };
+        match word.as_str() {
+            "--seed" => made.seed = number()?,
+            "--events" => made.events = number()?,
+            "--calls" => made.calls = number()?,
+            "--break" => made.broken = true,
+            _ => return Err(format!("{word} is not known")),
+        }
+    }
+    Ok(made)
+}
+
+/// Runs until there were enough; the first failing one is made short and printed.
+fn enough(
+    s: &Settings,
+    part: u64,
+    most: Option<Aim>,
+    tally: &mut Tally,
+    done: impl Fn(&Tally) -> bool,
+) -> Result<(), String> {
+    let mut number = 0;
+    while !done(tally) {
+        if let Err(failure) = run(Rng::of(s.seed, part, number), most, None, tally) {
+            println!("run {number} of part {part} differs; the short run is");
+            report::print(&reduce::reduce(*failure, None), None);
+            return Err(format!("the units differ (seed {})", s.seed));
+        }
+        number += 1;
+    }
+    Ok(())
+}
+
+fn compare(s: &Settings) -> Result<(), String> {
+    let mut tally = Tally::new();
+    enough(s, RUNS, None, &mut tally, |t| t.all() >= s.events)?;
+    let runs = tally.all();
+    for (part, (aim, ..)) in (1..).zip(AIMS) {
+        enough(s, part, Some(aim), &mut tally, |t| t.calls(aim) >= s.calls)?;
+    }
+    let spoilt = (RAW_CALLS / RAW_SHARE) as u64;
+    (0..spoilt).try_for_each(|number| raw::run(Rng::of(s.seed, RAW, number), RAW_SHARE))?;
+    tally.print();
+    println!(
+        "{runs} events in random runs, {} calls in all, {RAW_CALLS} of spoilt memory",
+        tally.all()
+    );
+    match tally.missing() {
+        missing if missing.is_empty() => Ok(()),
+        missing => Err(format!("seen too seldom: {}", missing.join("; "))),
+    }
+}
+
+/// Plants a fault, and holds the comparison to finding it and to a short run.
+fn find(s: &Settings, fault: &'static Fault) -> Result<(), String> {
+    let found = |number| {
+        run(
+            Rng::of(s.seed, BROKEN, number),
+            None,
+            Some(fault),
+            &mut Tally::new(),
+        )
+        .err()
+    };
+    let failure = (0..FIND_WITHIN)
+        .find_map(found)
+        .ok_or(format!("not found: {}", fault.name))?;
+    let long = failure.events.len();
+    let short = reduce::reduce(*failure, Some(fault));
+    println!(
+        "planted: {}; found after {long} events, shown by {}",
+        fault.name,
+        short.events.len()
+    );
+    report::print(&short, Some(fault));
+    if short.events.len() > fault.most {
+        return Err(format!("the run is longer than {} events", fault.most));
+    }
+    Ok(())
+}
+
+fn main() -> ExitCode {
+    let start = Instant::now();
+    let told = settings().and_then(|s| {
+        println!("seed {}", s.seed);
+        if s.broken {
+            FAULTS.iter().try_for_each(|fault| find(&s, fault))
+        } else {
+            compare(&s)
+        }
+    });
+    println!("{} s", start.elapsed().as_secs());
+    match told {
+        Ok(()) => ExitCode::SUCCESS,
+        Err(why) => {
+            eprintln!("compare: {why}");
+            ExitCode::FAILURE
+        }
+    }
+}

@@ -1,0 +1,269 @@
+//! Both units side by side: each event goes to both, and everything is compared.
+
+use crate::board::{Equipment, Turned, Unit};
+use crate::event::{hex, Change, Event, Hold};
+use crate::faults::Fault;
+use crate::image::{config_of, difference, kept_of, put_file, put_fixed, put_state};
+use crate::scene::Scene;
+use independent::{Action, Answer, Config, State};
+
+/// The longest buffer lent.
+pub const ROOM: usize = 600;
+
+/// What stands in a buffer before an event, no two neighbours alike.
+const PATTERN: [u8; ROOM] = pattern();
+
+const fn pattern() -> [u8; ROOM] {
+    let mut made = [0; ROOM];
+    let mut i = 0;
+    while i < ROOM {
+        made[i] = (i * 7 + 3) as u8;
+        i += 1;
+    }
+    made
+}
+
+/// The proved unit, the independent one, and what each is lent.
+pub struct Pair {
+    pub config: Config,
+    pub state: State,
+    pub lent: usize,
+    pub equipment: Equipment,
+    pub unit: Box<Unit>,
+    /// The proved unit's kept numbers before the latest event.
+    pub before: [u16; 26],
+    params: Vec<u8>,
+    /// The characters of records as the latest event left them, those of no record too.
+    area: Vec<u8>,
+    reply: [u8; ROOM],
+    other: [u8; ROOM],
+    sent: usize,
+    fault: Option<&'static Fault>,
+}
+
+impl Pair {
+    /// Both units as a scene has them; a fresh unit is made by the proved entry out of any memory.
+    pub fn new(scene: &Scene, fault: Option<&'static Fault>) -> Result<Pair, String> {
+        let mut unit = Unit::filled(scene.fill);
+        unit.block.copy_from_slice(&scene.params);
+        if scene.fresh {
+            unit.block[..scene.lent].fill(scene.fill);
+            unit.fresh(scene.lent);
+        } else {
+            put_state(&scene.state, &mut unit);
+        }
+        if let Some(found) = difference(&scene.state, &scene.params, &unit) {
+            return Err(format!("at the start: {found}"));
+        }
+        Ok(Pair {
+            config: config_of(&scene.equipment),
+            state: scene.state.clone(),
+            lent: scene.lent,
+            equipment: scene.equipment.clone(),
+            before: unit.kept,
+            params: scene.params.clone(),
+            area: unit.area.to_vec(),
+            unit,
+            reply: PATTERN,
+            other: PATTERN,
+            sent: 0,
+            fault,
+        })
+    }
+
+    /// The reply to the latest stretch.
+    pub fn reply(&self) -> &[u8] {
+        &self.reply[..self.sent]
+    }
+
+    /// Hands an event to both; tells how it ended, or where they differ. A change of the kept state ends as nothing.
+    pub fn take(&mut self, event: &Event) -> Result<Option<Answer>, String> {
+        if let Event::Change(change) = event {
+            self.change(change);
+            return Ok(None);
+        }
+        let sent = self.sent;
+        self.reply[..sent].copy_from_slice(&PATTERN[..sent]);
+        self.other[..sent].copy_from_slice(&PATTERN[..sent]);
+        self.before = self.unit.kept;
+        let buffer = &mut self.reply;
+        let mut turned = proved(&mut self.unit, &self.equipment, self.lent, buffer, event);
+        if let Some(fault) = self.fault {
+            (fault.plant)(
+                event,
+                &self.before,
+                &mut self.unit,
+                &mut turned,
+                &mut self.reply,
+            );
+        }
+        let answer = self.independent(event);
+        self.sent = answer.sent;
+        match self.differs(event, &turned, &answer) {
+            Some(found) => Err(found),
+            None => Ok(Some(answer)),
+        }
+    }
+
+    fn independent(&mut self, event: &Event) -> Answer {
+        let (c, s, params) = (&self.config, &mut self.state, &mut self.params[..self.lent]);
+        let outcome = match event {
+            Event::Stretch { bytes, room } => {
+                return independent::stretch(c, s, params, &mut self.other[..*room], bytes)
+            }
+            Event::Elapsed(ms) => independent::elapsed(c, s, params, *ms),
+            Event::Word(number, word) => independent::set_word(c, s, params, *number, *word),
+            Event::Pulses(number, count) => independent::pulses(c, s, params, *number, *count),
+            Event::Value(number, value) => independent::set_value(c, s, params, *number, *value),
+            Event::Store {
+                file,
+                event,
+                values,
+            } => independent::store(c, s, params, *file, *event, values),
+            Event::Change(_) => unreachable!("a change is no event of a unit"),
+        };
+        Answer {
+            outcome,
+            action: None,
+            sent: 0,
+        }
+    }
+
+    fn differs(&mut self, event: &Event, turned: &Turned, answer: &Answer) -> Option<String> {
+        if turned.outcome != answer.outcome {
+            return Some(format!(
+                "outcome: proved {}, independent {}",
+                turned.outcome, answer.outcome
+            ));
+        }
+        let action = match answer.action {
+            None => (0, 0),
+            Some(Action { output, close }) => (1 + u8::from(close), output),
+        };
+        if (turned.action, turned.output) != action {
+            return Some(format!(
+                "action: proved {:?}, independent {action:?}",
+                (turned.action, turned.output)
+            ));
+        }
+        if turned.sent != answer.sent {
+            return Some(format!(
+                "sent: proved {}, independent {}",
+                turned.sent, answer.sent
+            ));
+        }
+        if self.reply[..self.sent] != self.other[..self.sent] {
+            return Some(format!(
+                "reply: proved {}, independent {}",
+                hex(self.reply()),
+                hex(&self.other[..self.sent])
+            ));
+        }
+        if self.reply[self.sent..] != PATTERN[self.sent..] {
+            return Some("the buffer behind the reply was written".to_string());
+        }
+        difference(&self.state, &self.params, &self.unit)
+            .or_else(|| self.area_differs(event, answer.outcome))
+    }
+
+    /// Only a record stored or released may change characters of the area, those of no record too.
+    fn area_differs(&mut self, event: &Event, outcome: u8) -> Option<String> {
+        let moves = match event {
+            Event::Stretch { bytes, .. } => {
+                outcome == 0 && bytes[2] == 0x04 && bytes[3] & 0x40 != 0
+            }
+            Event::Store { .. } => outcome == 0,
+            _ => return None,
+        };
+        if moves {
+            self.area.copy_from_slice(&self.unit.area);
+            return None;
+        }
+        let same = same_area(&self.area, &self.unit.area);
+        (!same).then(|| "a character of the record area changed".to_string())
+    }
+
+    /// Changes the kept state of both.
+    pub fn change(&mut self, change: &Change) {
+        let (s, u) = (&mut self.state, &mut self.unit);
+        match change {
+            Change::Clock(clock) => s.clock = *clock,
+            Change::Hold(hold) => {
+                s.select = if let Hold::Held(select) = hold {
+                    Some(*select)
+                } else {
+                    None
+                };
+                s.timed_out = if let Hold::TimedOut(master) = hold {
+                    Some(*master)
+                } else {
+                    None
+                };
+            }
+            Change::Write(write) => s.write = *write,
+            Change::Memory(memory) => s.history = *memory,
+            Change::Bits { bit7, bit3, bit2 } => (s.bit7, s.bit3, s.bit2) = (*bit7, *bit3, *bit2),
+            Change::Port { silence, mark } => (s.silence, s.mark) = ((*silence).into(), *mark),
+            Change::Word(number, word) => s.words[usize::from(*number)] = *word,
+            Change::Value(number, value) => s.values[usize::from(*number)] = *value,
+            Change::Fixed(at, bytes) => put_in_fixed(s, *at, bytes),
+            Change::Block(at, bytes) => self.params[*at..*at + bytes.len()].copy_from_slice(bytes),
+            Change::Records(file, held) => {
+                s.files[*file] = held.clone();
+                put_file(s, u, *file);
+                self.area.copy_from_slice(&u.area);
+            }
+            Change::Lent(lent) => self.lent = *lent,
+        }
+        u.kept = kept_of(s);
+        u.words = s.words;
+        u.results = s.values;
+        u.block.copy_from_slice(&self.params);
+        put_fixed(s, u);
+    }
+}
+
+/// Hands an event to the proved unit alone; a stretch is lent the front of the buffer.
+pub fn proved(
+    u: &mut Unit,
+    c: &Equipment,
+    lent: usize,
+    buffer: &mut [u8],
+    event: &Event,
+) -> Turned {
+    Turned::silent(match event {
+        Event::Stretch { bytes, room } => return u.stretch(c, lent, &mut buffer[..*room], bytes),
+        Event::Elapsed(ms) => u.elapsed(c, lent, *ms),
+        Event::Word(number, word) => u.set_word(c, lent, *number, *word),
+        Event::Pulses(number, count) => u.pulses(c, lent, *number, *count),
+        Event::Value(number, value) => u.set_value(c, lent, *number, *value),
+        Event::Store {
+            file,
+            event,
+            values,
+        } => u.store(c, lent, *file, *event, values),
+        Event::Change(_) => unreachable!("a change is no event of a unit"),
+    })
+}
+
+/// Writes into whichever of the three blocks each place falls.
+fn put_in_fixed(state: &mut State, at: usize, bytes: &[u8]) {
+    for (i, &byte) in (at..).zip(bytes) {
+        match i {
+            0..16 => state.fixed.block_00[i] = byte,
+            16..272 => state.fixed.block_03[i - 16] = byte,
+            _ => state.fixed.block_0b[i - 272] = byte,
+        }
+    }
+}
+
+/// Whether all is alike: by eights and without a way out early, so it is quick under an emulator too.
+fn same_area(a: &[u8], b: &[u8]) -> bool {
+    let eights = |part: &[u8]| u64::from_le_bytes(part.try_into().expect("eight characters"));
+    let differ = |(x, y)| eights(x) ^ eights(y);
+    a.chunks_exact(8)
+        .zip(b.chunks_exact(8))
+        .map(differ)
+        .fold(0, |all, one| all | one)
+        == 0
+}

@@ -1,0 +1,110 @@
+//! Makes a failing run short: events are left out, and what the start holds, as long as the two units still differ.
+
+use crate::board::BLOCK;
+use crate::event::Event;
+use crate::faults::Fault;
+use crate::pair::Pair;
+use crate::runs::Failure;
+use crate::scene::Scene;
+use independent::{FixedArea, State};
+
+/// Where a run fails first, as its number of events and the difference.
+pub fn fails(
+    scene: &Scene,
+    events: &[Event],
+    fault: Option<&'static Fault>,
+) -> Option<(usize, String)> {
+    let mut pair = match Pair::new(scene, fault) {
+        Ok(pair) => pair,
+        Err(found) => return Some((0, found)),
+    };
+    events
+        .iter()
+        .enumerate()
+        .find_map(|(i, event)| pair.take(event).err().map(|found| (i + 1, found)))
+}
+
+/// The short run.
+pub fn reduce(mut failure: Failure, fault: Option<&'static Fault>) -> Failure {
+    fewer_events(&mut failure, fault);
+    simpler_start(&mut failure, fault);
+    fewer_events(&mut failure, fault);
+    failure
+}
+
+/// Leaves out halves, quarters and so on down to single events, until none can be spared.
+fn fewer_events(failure: &mut Failure, fault: Option<&'static Fault>) {
+    let mut part = failure.events.len();
+    while part > 0 {
+        let before = failure.events.len();
+        let mut at = 0;
+        while at < failure.events.len() {
+            if !without(failure, at, part, fault) {
+                at += part;
+            }
+        }
+        if part > 1 || failure.events.len() == before {
+            part /= 2;
+        }
+    }
+}
+
+/// Leaves out some events, and all behind the first difference, if the run still fails.
+fn without(failure: &mut Failure, at: usize, part: usize, fault: Option<&'static Fault>) -> bool {
+    let mut events = failure.events.clone();
+    events.drain(at..(at + part).min(events.len()));
+    let Some((needed, _)) = fails(&failure.scene, &events, fault) else {
+        return false;
+    };
+    events.truncate(needed);
+    failure.events = events;
+    true
+}
+
+/// Makes the start fresh in whole or in parts, and the configuration small.
+fn simpler_start(failure: &mut Failure, fault: Option<&'static Fault>) {
+    for simpler in SIMPLER {
+        try_start(failure, fault, simpler);
+    }
+    for file in 0..32 {
+        try_start(failure, fault, |s| s.state.files[file].clear());
+        try_start(failure, fault, |s| s.equipment.files[file] = 0);
+    }
+    for at in (0..256).step_by(16) {
+        try_start(failure, fault, |s| s.equipment.inputs[at..at + 16].fill(0));
+        try_start(failure, fault, |s| s.equipment.outputs[at..at + 16].fill(0));
+        try_start(failure, fault, |s| {
+            s.equipment.calculations[at..at + 16].fill(0)
+        });
+    }
+}
+
+/// Keeps a simpler start if the run still fails.
+fn try_start(failure: &mut Failure, fault: Option<&'static Fault>, simpler: impl Fn(&mut Scene)) {
+    let mut scene = failure.scene.clone();
+    simpler(&mut scene);
+    if let Some((needed, _)) = fails(&scene, &failure.events, fault) {
+        failure.events.truncate(needed);
+        failure.scene = scene;
+    }
+}
+
+/// Ways to make a start simpler; the first makes all of it so.
+const SIMPLER: [fn(&mut Scene); 12] = [
+    |s| {
+        s.state = State::fresh();
+        s.params = vec![0; BLOCK];
+        s.fresh = true;
+    },
+    |s| s.params = vec![0; BLOCK],
+    |s| (s.lent, s.equipment.length) = (0, 0),
+    |s| s.state.words = [0; 256],
+    |s| s.state.values = [0; 128],
+    |s| s.state.fixed = FixedArea::EMPTY,
+    |s| (s.state.select, s.state.timed_out) = (None, None),
+    |s| s.state.write = None,
+    |s| s.state.history = None,
+    |s| s.state.clock = State::fresh().clock,
+    |s| (s.state.silence, s.state.mark) = (0, 0),
+    |s| (s.state.bit7, s.state.bit3, s.state.bit2) = (true, false, false),
+];

@@ -1,0 +1,103 @@
+//! A failing run in words, to be read and run again.
+
+use crate::board::Equipment;
+use crate::event::hex;
+use crate::faults::Fault;
+use crate::image::{kept_of, NAMES};
+use crate::reduce::fails;
+use crate::runs::Failure;
+use crate::scene::Scene;
+use independent::State;
+
+/// Prints where a run starts, its events, and where the two units differ.
+pub fn print(failure: &Failure, fault: Option<&'static Fault>) {
+    print_equipment(&failure.scene.equipment);
+    print_start(&failure.scene);
+    for (i, event) in failure.events.iter().enumerate() {
+        println!("  {}. {event}", i + 1);
+    }
+    if let Some((_, found)) = fails(&failure.scene, &failure.events, fault) {
+        println!("  differs: {found}");
+    }
+}
+
+fn print_equipment(e: &Equipment) {
+    let files: Vec<String> = (0..32)
+        .filter(|&f| e.files[f] != 0)
+        .map(|f| format!("{f} of {}", e.values[f]))
+        .collect();
+    println!("  unit {} with a parameter block of {}", e.unit, e.length);
+    println!(
+        "  inputs {}; outputs {}",
+        numbers(&e.inputs),
+        numbers(&e.outputs)
+    );
+    println!(
+        "  calculations {}; files of values {}",
+        numbers(&e.calculations),
+        listed(&files)
+    );
+}
+
+fn listed(items: &[String]) -> String {
+    if items.is_empty() {
+        "none".to_string()
+    } else {
+        items.join(", ")
+    }
+}
+
+/// Equipped numbers as runs from one to another.
+fn numbers(table: &[u8; 256]) -> String {
+    let equipped = |n: usize| n < 256 && table[n] != 0;
+    let firsts = (0..256).filter(|&n| equipped(n) && (n == 0 || !equipped(n - 1)));
+    let runs = firsts.map(|first| {
+        let last = (first..256)
+            .take_while(|&n| equipped(n))
+            .last()
+            .unwrap_or(first);
+        format!("{first:02X}-{last:02X}")
+    });
+    listed(&runs.collect::<Vec<_>>())
+}
+
+fn print_start(scene: &Scene) {
+    println!(
+        "  {} of the block lent; memory filled with {:02X}",
+        scene.lent, scene.fill
+    );
+    if scene.fresh {
+        return println!("  from a fresh unit:");
+    }
+    let (kept, fresh) = (kept_of(&scene.state), kept_of(&State::fresh()));
+    let kept = (0..kept.len())
+        .filter(|&i| kept[i] != fresh[i])
+        .map(|i| format!("{} {}", NAMES[i], kept[i]));
+    println!(
+        "  from a unit that is fresh but for: {}",
+        listed(&kept.collect::<Vec<_>>())
+    );
+    print_areas(&scene.state, &scene.params);
+}
+
+/// The areas and files that are not all 0 or empty.
+fn print_areas(s: &State, block: &[u8]) {
+    let parts = [
+        ("words", s.words.map(u16::to_le_bytes).concat()),
+        ("values", s.values.map(u32::to_le_bytes).concat()),
+        ("block 00", s.fixed.block_00.to_vec()),
+        ("block 03", s.fixed.block_03.to_vec()),
+        ("block 0B", s.fixed.block_0b.to_vec()),
+        ("parameter block", block.to_vec()),
+    ];
+    for (name, part) in parts
+        .iter()
+        .filter(|(_, part)| part.iter().any(|&b| b != 0))
+    {
+        println!("  {name}: {}", hex(part));
+    }
+    for (file, held) in (0..32).zip(&s.files).filter(|(_, held)| !held.is_empty()) {
+        let records: Vec<String> = held.iter().map(|r| hex(r)).collect();
+        println!("  file {file}: {}", records.join(" "));
+    }
+}

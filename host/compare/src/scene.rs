@@ -1,0 +1,160 @@
+//! Where a run starts: a random configuration, and a kept state of every shape that fits it.
+
+use crate::board::{Equipment, BLOCK};
+use crate::rng::Rng;
+use crate::shapes;
+use independent::State;
+
+/// A configuration, a kept state and what is lent.
+#[derive(Clone)]
+pub struct Scene {
+    pub equipment: Equipment,
+    pub state: State,
+    pub params: Vec<u8>,
+    pub lent: usize,
+    /// What stands in memory that nothing was put into.
+    pub fill: u8,
+    /// Whether the proved unit is made by its own entry.
+    pub fresh: bool,
+    /// The configuration's fault, as an index of `FAULTY`.
+    pub faulty: Option<usize>,
+}
+
+impl Scene {
+    /// A fresh unit of a random configuration.
+    pub fn fresh(rng: &mut Rng) -> Scene {
+        let equipment = equipment(rng);
+        let lent = equipment.length;
+        Scene {
+            equipment,
+            state: State::fresh(),
+            params: vec![0; BLOCK],
+            lent,
+            fill: rng.byte(),
+            fresh: true,
+            faulty: None,
+        }
+    }
+
+    /// A unit of a random configuration in the middle of its life.
+    pub fn random(rng: &mut Rng) -> Scene {
+        let mut scene = Scene::fresh(rng);
+        scene.fresh = false;
+        rng.fill(&mut scene.params);
+        scene.state = shapes::state(rng, &scene.equipment);
+        scene
+    }
+
+    /// A unit whose configuration is not valid in one thing.
+    pub fn faulty(rng: &mut Rng) -> Scene {
+        let mut scene = Scene::random(rng);
+        let fault = rng.below(FAULTY.len());
+        (FAULTY[fault].1)(rng, &mut scene);
+        scene.faulty = Some(fault);
+        scene
+    }
+}
+
+type Spoil = fn(&mut Rng, &mut Scene);
+
+/// The ways in which a configuration is not valid.
+pub const FAULTY: [(&str, Spoil); 8] = [
+    ("unit over 7FEh", |rng, s| {
+        s.equipment.unit = rng.pick(&[0x7FF, 0x800, 0xFFFF])
+    }),
+    ("input in 20h to 2Fh", |rng, s| {
+        s.equipment.inputs[rng.between(0x20, 0x2F)] = 1
+    }),
+    ("input in 60h to 7Fh", |rng, s| {
+        s.equipment.inputs[rng.between(0x60, 0x7F)] = 1
+    }),
+    ("calculation over 7Fh", |rng, s| {
+        s.equipment.calculations[rng.between(0x80, 0xFF)] = 1
+    }),
+    ("file of 0 values", |rng, s| equip_file(s, rng.below(32), 0)),
+    ("file of over 16 values", |rng, s| {
+        equip_file(s, rng.below(32), rng.pick(&[17, 18, 128, 255]))
+    }),
+    ("block over 512", |rng, s| {
+        s.lent = rng.pick(&[513, 514, BLOCK]);
+        s.equipment.length = s.lent;
+    }),
+    ("block far over 512", |rng, s| {
+        s.equipment.length = rng.pick(&[1 << 16, 1 << 32, usize::MAX])
+    }),
+];
+
+fn equip_file(scene: &mut Scene, file: usize, values: u8) {
+    scene.equipment.files[file] = 1;
+    scene.equipment.values[file] = values;
+}
+
+/// A valid configuration: from nothing equipped to everything.
+fn equipment(rng: &mut Rng) -> Equipment {
+    let mut made = Equipment {
+        unit: rng.pick(&[0, 1, 0x7FE, 1234]),
+        length: rng.pick(&[0, 1, 16, 100, 128, 255, 256, 511, 512, 512]),
+        inputs: [0; 256],
+        outputs: [0; 256],
+        calculations: [0; 256],
+        files: [0; 32],
+        values: [0; 32],
+    };
+    if rng.flip() {
+        made.unit = rng.below(0x7FF) as u16;
+        made.length = rng.below(513);
+    }
+    let some = share(rng);
+    equip(
+        rng,
+        &mut made.inputs,
+        some,
+        |n| !matches!(n, 0x20..=0x2F | 0x60..=0x7F),
+    );
+    let some = share(rng);
+    equip(rng, &mut made.outputs, some, |_| true);
+    equip_calculations(rng, &mut made.calculations);
+    equip_files(rng, &mut made);
+    made
+}
+
+/// How many in a hundred are equipped.
+fn share(rng: &mut Rng) -> usize {
+    rng.pick(&[0, 4, 20, 50, 90, 100, 100, 100])
+}
+
+/// Any character but 0 equips.
+fn mark(rng: &mut Rng) -> u8 {
+    rng.pick(&[1, 1, 2, 0x80, 0xFF])
+}
+
+fn equip(rng: &mut Rng, table: &mut [u8], some: usize, may: fn(usize) -> bool) {
+    for n in (0..table.len()).filter(|&n| may(n)) {
+        if rng.percent(some) {
+            table[n] = mark(rng);
+        }
+    }
+}
+
+/// Often 127 or 128, as many as a reply carries and one more.
+fn equip_calculations(rng: &mut Rng, table: &mut [u8; 256]) {
+    let some = share(rng);
+    equip(rng, &mut table[..128], some, |_| true);
+    if some == 100 && rng.flip() {
+        table[rng.below(128)] = 0;
+    }
+}
+
+/// None, a few or all; sizes at which a dump just fits, or just does not, are common. Others have any number of values.
+fn equip_files(rng: &mut Rng, made: &mut Equipment) {
+    rng.fill(&mut made.values);
+    let many = rng.pick(&[0, 1, 2, 3, 3, 4, 4, 32]);
+    for i in 0..many {
+        let file = if many == 32 { i } else { rng.below(32) };
+        made.files[file] = mark(rng);
+        made.values[file] = rng.pick(&[1, 4, 5, 12, 12, 14, 16]);
+        if rng.flip() {
+            made.values[file] = rng.between(1, 16) as u8;
+        }
+    }
+}
