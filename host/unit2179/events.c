@@ -1,0 +1,174 @@
+#include "events.h"
+
+#include <errno.h>
+#include <fcntl.h>
+#include <string.h>
+#include <sys/stat.h>
+#include <unistd.h>
+
+const char event_syntax[] =
+    "Event lines, with numbers as in the configuration:\n"
+    "  word INPUT WORD               a status or analog word is now this, e.g. word 30h 8001h\n"
+    "  pulse INPUT COUNT             so many pulses were counted, e.g. pulse 40h 12\n"
+    "  value CALCULATION PATTERN     a value of 32 bits, e.g. value 05h 3F800000h\n"
+    "  record FILE TYPE VALUE...     a record is stored under the unit's clock, e.g. record 2 17 1234h 5678h\n";
+
+static uint8_t set_word(const struct event *e, const struct osturdam_config *c, struct osturdam_unit *u)
+{
+    return osturdam_unit_set_word(c, u, (uint8_t)e->figures[0], (uint16_t)e->figures[1]);
+}
+
+static uint8_t pulses(const struct event *e, const struct osturdam_config *c, struct osturdam_unit *u)
+{
+    return osturdam_unit_pulses(c, u, (uint8_t)e->figures[0], (uint16_t)e->figures[1]);
+}
+
+static uint8_t set_value(const struct event *e, const struct osturdam_config *c, struct osturdam_unit *u)
+{
+    return osturdam_unit_set_value(c, u, (uint8_t)e->figures[0], e->figures[1]);
+}
+
+static uint8_t store_record(const struct event *e, const struct osturdam_config *c, struct osturdam_unit *u)
+{
+    uint16_t values[OSTURDAM_VALUES];
+    for (size_t i = 2; i < e->many; i++)
+        values[i - 2] = (uint16_t)e->figures[i];
+    return osturdam_unit_store_record(c, u, (uint8_t)e->figures[0], (uint8_t)e->figures[1], values, e->many - 2);
+}
+
+static const struct {
+    const char *word, *takes;
+    size_t least, most; /* figures */
+    uint32_t limits[3]; /* of the first, the second and each further figure */
+    uint8_t (*apply)(const struct event *e, const struct osturdam_config *c, struct osturdam_unit *u);
+} kinds[] = {
+    {"word", "an input, 0 to FFh, and a word, 0 to FFFFh", 2, 2, {0xFF, 0xFFFF, 0}, set_word},
+    {"pulse", "an input, 0 to FFh, and a count, 0 to 65535", 2, 2, {0xFF, 0xFFFF, 0}, pulses},
+    {"value", "a calculation, 0 to FFh, and a pattern of 32 bits", 2, 2, {0xFF, 0xFFFFFFFF, 0}, set_value},
+    {"record", "a file, 0 to 31, an event type, 0 to FFh, and 1 to 16 values, 0 to FFFFh", 3, EVENT_FIGURES,
+     {OSTURDAM_FILES - 1, 0xFF, 0xFFFF}, store_record},
+};
+
+enum { KINDS = sizeof kinds / sizeof *kinds };
+
+bool events_open(struct events *events, const char *path)
+{
+    struct stat found;
+    *events = (struct events){.at = {path, 0}, .file = -1, .writer = -1};
+    if (!path)
+        return true;
+    if (strcmp(path, "-") == 0) {
+        events->at.name = "standard input";
+        events->file = STDIN_FILENO;
+        return true;
+    }
+    if (mkfifo(path, 0644) != 0 && errno != EEXIST) {
+        complain(&events->at, "%s", strerror(errno));
+        return false;
+    }
+    if (stat(path, &found) != 0 || !S_ISFIFO(found.st_mode)) {
+        complain(&events->at, "is no FIFO; a file of events is given as --events - <FILE");
+        return false;
+    }
+    events->file = open(path, O_RDONLY | O_NONBLOCK | O_CLOEXEC);
+    events->writer = open(path, O_WRONLY | O_NONBLOCK | O_CLOEXEC);
+    if (events->file < 0 || events->writer < 0)
+        complain(&events->at, "%s", strerror(errno));
+    return events->file >= 0 && events->writer >= 0;
+}
+
+static bool figures_of(char **words, size_t many, struct event *event)
+{
+    const uint32_t *limits = kinds[event->kind].limits;
+    event->many = many - 1;
+    if (event->many < kinds[event->kind].least || event->many > kinds[event->kind].most)
+        return false;
+    for (size_t i = 0; i < event->many; i++) {
+        if (!number_of(words[i + 1], limits[i < 2 ? i : 2], &event->figures[i]))
+            return false;
+    }
+    return true;
+}
+
+/* Whether a line is an event; an empty one is none and no fault. */
+static bool event_of(const struct place *at, char *line, struct event *event)
+{
+    char *words[TEXT_WORDS];
+    size_t many = words_of(line, words);
+    if (many == 0)
+        return false;
+    for (event->kind = 0; event->kind < KINDS; event->kind++) {
+        if (strcmp(words[0], kinds[event->kind].word) != 0)
+            continue;
+        if (figures_of(words, many, event))
+            return true;
+        complain(at, "%s takes %s", words[0], kinds[event->kind].takes);
+        return false;
+    }
+    complain(at, "'%s' is no event (word, pulse, value, record)", words[0]);
+    return false;
+}
+
+static bool end_line(struct events *e, bool (*take)(void *, const struct event *), void *context)
+{
+    struct event event;
+    size_t length = e->length;
+    e->length = 0;
+    e->at.line++;
+    if (length == EVENT_LINE) {
+        complain(&e->at, "the line is longer than %d characters", EVENT_LINE - 1);
+        return true;
+    }
+    e->line[length] = '\0';
+    if (strlen(e->line) != length) {
+        complain(&e->at, "the line has a character that is no text");
+        return true;
+    }
+    return !event_of(&e->at, e->line, &event) || take(context, &event);
+}
+
+bool events_read(struct events *e, bool (*take)(void *context, const struct event *event), void *context)
+{
+    char come[1024];
+    ssize_t many = read(e->file, come, sizeof come);
+    if (many < 0 && (errno == EAGAIN || errno == EINTR))
+        return true;
+    if (many < 0)
+        complain(&e->at, "%s", strerror(errno));
+    for (ssize_t i = 0; i < many; i++) {
+        if (come[i] == '\n') {
+            if (!end_line(e, take, context))
+                return false;
+        } else if (e->length < EVENT_LINE) {
+            e->line[e->length++] = come[i];
+        }
+    }
+    if (many > 0)
+        return true;
+    e->file = -1;
+    return e->length == 0 || end_line(e, take, context);
+}
+
+uint8_t event_apply(const struct event *event, const struct osturdam_config *config, struct osturdam_unit *unit)
+{
+    return kinds[event->kind].apply(event, config, unit);
+}
+
+const char *event_kind(const struct event *event)
+{
+    return kinds[event->kind].word;
+}
+
+const char *event_refusal(const struct event *event, uint8_t outcome)
+{
+    if (kinds[event->kind].apply != store_record)
+        return "that number is not equipped, or is of another kind";
+    switch (outcome) {
+    case OSTURDAM_FILE_FULL:
+        return "the file is full: nothing was stored";
+    case OSTURDAM_NO_FILE:
+        return "that file is not equipped";
+    default:
+        return "records of that file have another number of values";
+    }
+}

@@ -1,0 +1,45 @@
+/* Local events, as lines of plain text that come through a FIFO or standard input. */
+#ifndef UNIT2179_EVENTS_H
+#define UNIT2179_EVENTS_H
+
+#include <stdbool.h>
+
+#include "osturdam.h"
+#include "text.h"
+
+enum { EVENT_FIGURES = 2 + OSTURDAM_VALUES, EVENT_LINE = 512 };
+
+/* A line read: the number of the point or file, and what is said of it. */
+struct event {
+    size_t kind;
+    uint32_t figures[EVENT_FIGURES];
+    size_t many;
+};
+
+/* Where lines come from. */
+struct events {
+    struct place at;
+    int file;   /* -1: nothing more comes */
+    int writer; /* of a FIFO, held so that it does not end when a writer does */
+    char line[EVENT_LINE];
+    size_t length;
+};
+
+/* Opens a FIFO, which is made if nothing is there, or standard input (`-`), or nothing (NULL). false: told on standard error. */
+bool events_open(struct events *events, const char *path);
+
+/* Reads what has come and calls `take` for each whole line that is an event; any other is told on standard error. Stops where
+ * `take` answers false, and answers that. */
+bool events_read(struct events *events, bool (*take)(void *context, const struct event *event), void *context);
+
+/* Has the unit hear of an event. Answers the library's number. */
+uint8_t event_apply(const struct event *event, const struct osturdam_config *config, struct osturdam_unit *unit);
+
+const char *event_kind(const struct event *event);
+
+/* What a refusal means, in words. */
+const char *event_refusal(const struct event *event, uint8_t outcome);
+
+extern const char event_syntax[];
+
+#endif

@@ -1,0 +1,167 @@
+#include "line.h"
+
+#include <arpa/inet.h>
+#include <errno.h>
+#include <fcntl.h>
+#include <netinet/in.h>
+#include <netinet/tcp.h>
+#include <poll.h>
+#include <stdio.h>
+#include <stdlib.h>
+#include <string.h>
+#include <sys/socket.h>
+#include <termios.h>
+#include <unistd.h>
+
+#include "clock.h"
+#include "text.h"
+
+enum { SEND_MS = 5000 }; /* a reply of 520 characters at 1200 baud takes 4,334 ms */
+
+static const struct {
+    uint32_t baud;
+    speed_t speed;
+} speeds[] = {{1200, B1200}, {2400, B2400}, {4800, B4800}, {9600, B9600}, {19200, B19200}};
+
+enum { SPEEDS = sizeof speeds / sizeof *speeds };
+
+static size_t speed_of(uint32_t baud)
+{
+    size_t i = 0;
+    while (i < SPEEDS && speeds[i].baud != baud)
+        i++;
+    return i;
+}
+
+bool line_has_baud(uint32_t baud)
+{
+    return speed_of(baud) < SPEEDS;
+}
+
+static void line_empty(struct line *line, const char *name)
+{
+    snprintf(line->name, sizeof line->name, "%s", name);
+    line->listener = line->held = -1;
+    for (size_t i = 0; i < CHANNELS; i++)
+        line->channels[i] = (struct channel){.file = -1};
+}
+
+static bool failed(const char *name, const char *what)
+{
+    complain(&(struct place){name, 0}, "%s: %s", what, strerror(errno));
+    return false;
+}
+
+/* Eight bits, one stop bit, no parity, every character as it is. */
+static bool make_raw(int file, speed_t speed)
+{
+    struct termios t;
+    if (tcgetattr(file, &t) != 0)
+        return false;
+    t.c_iflag = t.c_oflag = t.c_lflag = 0;
+    t.c_cflag = CS8 | CREAD | CLOCAL;
+    t.c_cc[VMIN] = 1;
+    t.c_cc[VTIME] = 0;
+    return cfsetispeed(&t, speed) == 0 && cfsetospeed(&t, speed) == 0 && tcsetattr(file, TCSANOW, &t) == 0;
+}
+
+bool line_open_serial(struct line *line, const char *device, uint32_t baud)
+{
+    line_empty(line, device);
+    int file = open(device, O_RDWR | O_NOCTTY | O_NONBLOCK | O_CLOEXEC);
+    if (file < 0)
+        return failed(device, "cannot be opened");
+    if (!make_raw(file, speeds[speed_of(baud)].speed))
+        return failed(device, "is no serial device");
+    tcflush(file, TCIFLUSH); /* what was sent before the unit was there is not heard */
+    line->channels[0].file = file;
+    return true;
+}
+
+bool line_open_pty(struct line *line)
+{
+    line_empty(line, "pseudo-terminal");
+    int file = posix_openpt(O_RDWR | O_NOCTTY);
+    if (file < 0 || grantpt(file) != 0 || unlockpt(file) != 0)
+        return failed(line->name, "cannot be made");
+    line_empty(line, ptsname(file));
+    line->held = open(line->name, O_RDWR | O_NOCTTY | O_CLOEXEC);
+    if (line->held < 0 || !make_raw(line->held, B9600) || fcntl(file, F_SETFL, O_NONBLOCK) != 0)
+        return failed(line->name, "cannot be opened");
+    line->channels[0].file = file;
+    return true;
+}
+
+bool line_open_tcp(struct line *line, const char *address, uint16_t port)
+{
+    struct sockaddr_in at = {.sin_family = AF_INET, .sin_port = htons(port)};
+    socklen_t length = sizeof at;
+    int yes = 1;
+    line_empty(line, address);
+    if (inet_pton(AF_INET, address, &at.sin_addr) != 1) {
+        errno = EINVAL;
+        return failed(address, "is no address of four numbers");
+    }
+    line->listener = socket(AF_INET, SOCK_STREAM, 0);
+    if (line->listener < 0 || setsockopt(line->listener, SOL_SOCKET, SO_REUSEADDR, &yes, sizeof yes) != 0 ||
+        bind(line->listener, (struct sockaddr *)&at, length) != 0 || listen(line->listener, CHANNELS) != 0 ||
+        fcntl(line->listener, F_SETFL, O_NONBLOCK) != 0 || getsockname(line->listener, (struct sockaddr *)&at, &length) != 0)
+        return failed(address, "cannot be listened on");
+    snprintf(line->name, sizeof line->name, "%s:%u", address, (unsigned)ntohs(at.sin_port));
+    return true;
+}
+
+void line_accept(struct line *line)
+{
+    int yes = 1;
+    int file = accept(line->listener, NULL, NULL);
+    if (file < 0)
+        return;
+    for (size_t i = 0; i < CHANNELS; i++) {
+        if (line->channels[i].file >= 0)
+            continue;
+        fcntl(file, F_SETFL, O_NONBLOCK);
+        setsockopt(file, IPPROTO_TCP, TCP_NODELAY, &yes, sizeof yes);
+        line->channels[i] = (struct channel){.file = file};
+        return;
+    }
+    complain(&(struct place){line->name, 0}, "a connection was turned away: %d are open", CHANNELS);
+    close(file);
+}
+
+bool channel_read(struct channel *channel)
+{
+    uint8_t come[1024];
+    ssize_t many = read(channel->file, come, sizeof come);
+    if (many < 0)
+        return errno == EAGAIN || errno == EINTR;
+    if (many > 0)
+        stretch_take(&channel->stretch, come, (size_t)many, clock_now());
+    return many > 0;
+}
+
+void channel_send(struct channel *channel, const uint8_t *reply, size_t many)
+{
+    int64_t until = clock_now() + (int64_t)SEND_MS * NS_OF_MS;
+    while (many > 0) {
+        ssize_t done = write(channel->file, reply, many);
+        if (done > 0) {
+            reply += done;
+            many -= (size_t)done;
+            continue;
+        }
+        struct pollfd room = {.fd = channel->file, .events = POLLOUT};
+        int64_t left = (until - clock_now()) / NS_OF_MS;
+        if ((done < 0 && errno != EAGAIN && errno != EINTR) || left <= 0) {
+            fprintf(stderr, "unit2179: %zu characters of a reply could not be sent\n", many);
+            return;
+        }
+        poll(&room, 1, (int)left);
+    }
+}
+
+void channel_close(struct channel *channel)
+{
+    close(channel->file);
+    *channel = (struct channel){.file = -1};
+}

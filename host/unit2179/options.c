@@ -1,0 +1,141 @@
+#include "options.h"
+
+#include <stdio.h>
+#include <string.h>
+
+#include "config.h"
+#include "events.h"
+#include "line.h"
+#include "text.h"
+
+enum { LEAST_GAP = 20, LONGEST_WAIT = 10000 };
+
+static const struct options defaults = {.baud = 9600, .suspension = 1000, .address = "127.0.0.1"};
+
+static bool wrong(const char *option, const char *what)
+{
+    fprintf(stderr, "unit2179: %s %s; --help tells more\n", option, what);
+    return false;
+}
+
+/* Options that take a word, and where it goes. */
+static const char **text_of(struct options *o, const char *option)
+{
+    const struct {
+        const char *option;
+        const char **text;
+    } texts[] = {{"--config", &o->config}, {"--serial", &o->serial}, {"--tcp", &o->tcp},
+                 {"--events", &o->events}, {"--state", &o->state},   {"--log", &o->log}};
+    for (size_t i = 0; i < sizeof texts / sizeof *texts; i++) {
+        if (strcmp(option, texts[i].option) == 0)
+            return texts[i].text;
+    }
+    return NULL;
+}
+
+static uint32_t *number_option(struct options *o, const char *option)
+{
+    return strcmp(option, "--baud") == 0         ? &o->baud
+           : strcmp(option, "--gap") == 0        ? &o->gap
+           : strcmp(option, "--suspension") == 0 ? &o->suspension
+                                                 : NULL;
+}
+
+static bool *flag_option(struct options *o, const char *option)
+{
+    return strcmp(option, "--pty") == 0     ? &o->pty
+           : strcmp(option, "--fresh") == 0 ? &o->fresh
+           : strcmp(option, "--help") == 0  ? &o->help
+                                            : NULL;
+}
+
+static bool split_address(struct options *o)
+{
+    uint32_t port;
+    const char *colon = strrchr(o->tcp, ':');
+    if (colon)
+        snprintf(o->address, sizeof o->address, "%.*s", (int)(colon - o->tcp), o->tcp);
+    if (!number_of(colon ? colon + 1 : o->tcp, 65535, &port))
+        return wrong("--tcp", "takes [ADDRESS:]PORT");
+    o->port = (uint16_t)port;
+    return true;
+}
+
+/* 3.5 characters of ten bits, but no less than what a host and its adapters may be late by. */
+static uint32_t gap_at(uint32_t baud)
+{
+    uint32_t characters = (35000 + baud - 1) / baud;
+    return characters > LEAST_GAP ? characters : LEAST_GAP;
+}
+
+static bool settled(struct options *o)
+{
+    if ((o->serial != NULL) + (o->tcp != NULL) + o->pty > 1)
+        return wrong("--serial, --pty and --tcp", "do not go together");
+    if (o->fresh && !o->state)
+        return wrong("--fresh", "goes with --state");
+    if (!line_has_baud(o->baud))
+        return wrong("--baud", "is 1200, 2400, 4800, 9600 or 19200");
+    if (o->gap == 0)
+        o->gap = gap_at(o->baud);
+    return !o->tcp || split_address(o);
+}
+
+bool options_read(struct options *o, int many, char **words)
+{
+    *o = defaults;
+    for (int i = 1; i < many; i++) {
+        const char **text = text_of(o, words[i]);
+        uint32_t *number = number_option(o, words[i]);
+        bool *flag = flag_option(o, words[i]);
+        if (flag)
+            *flag = true;
+        else if (!text && !number)
+            return wrong(words[i], "is no option");
+        else if (i + 1 == many)
+            return wrong(words[i], "lacks what it takes");
+        else if (text)
+            *text = words[++i];
+        else if (!number_of(words[i + 1], number == &o->baud ? 19200 : LONGEST_WAIT, number) || *number == 0)
+            return wrong(words[i], number == &o->baud ? "is 1200, 2400, 4800, 9600 or 19200" : "takes milliseconds, 1 to 10000");
+        else
+            i++;
+    }
+    return settled(o);
+}
+
+static const char help[] =
+    "usage: unit2179 [OPTION...]\n"
+    "Serves a remote unit of the Cooper 2179 serial protocol. Without options it is the bench unit (unit 1234,\n"
+    "inputs 30h and 40h, fresh) on a pseudo-terminal, whose name it prints.\n"
+    "\n"
+    "The line, one of:\n"
+    "  --pty                  a pseudo-terminal of its own (the default)\n"
+    "  --serial DEVICE        a serial device or pseudo-terminal that exists: 8 bits, 1 stop bit, no parity\n"
+    "  --tcp [ADDRESS:]PORT   a TCP port (address 127.0.0.1; port 0: a free one). Up to 8 masters may be connected:\n"
+    "                         each connection has idle marks of its own and gets the replies to what it sent\n"
+    "  --baud RATE            of the serial device: 1200, 2400, 4800, 9600 (the default) or 19200\n"
+    "  --gap MS               quiet time that is an idle mark; 3.5 characters at the baud rate, at least 20 ms\n"
+    "  --suspension MS        quiet time that is an idle mark behind the header of a Set Time (1000)\n"
+    "\n"
+    "The unit:\n"
+    "  --config FILE          what it is equipped with; without, the bench unit\n"
+    "  --state FILE           keep its state there and begin with what is there; without, nothing is kept.\n"
+    "                         The state is on the disk before a reply is sent or an output acts. Time that the\n"
+    "                         process is down is not counted, and a select or a write does not outlive it\n"
+    "  --fresh                begin with a fresh unit, whatever the state file has\n"
+    "  --events FIFO          read local events there (made if it is missing), or from standard input (-)\n"
+    "  --log FILE             append each event and what came out, - for standard output; fields parted by tabs:\n"
+    "                         T ms, R stretch outcome reply, A output action, E event figures outcome\n"
+    "  --help                 print this\n"
+    "\n"
+    "Standard output has the line's name, then a line for each output action. SIGTERM and SIGINT end it in order.\n"
+    "\n";
+
+void options_help(void)
+{
+    fputs(help, stdout);
+    puts(config_syntax);
+    puts(event_syntax);
+    puts("Exit status: 0 ended in order, 1 log or events not to be had, 2 command line, 3 configuration, 4 state, 5 line.");
+}

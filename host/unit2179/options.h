@@ -1,0 +1,23 @@
+/* The command line. */
+#ifndef UNIT2179_OPTIONS_H
+#define UNIT2179_OPTIONS_H
+
+#include <stdbool.h>
+#include <stdint.h>
+
+struct options {
+    const char *config, *serial, *tcp, *events, *state, *log; /* NULL: not given */
+    bool pty, fresh, help;
+    uint32_t baud;
+    uint32_t gap; /* milliseconds */
+    uint32_t suspension;
+    char address[64]; /* of the TCP port */
+    uint16_t port;
+};
+
+/* false: a word is wrong, which was told. */
+bool options_read(struct options *options, int many, char **words);
+
+void options_help(void);
+
+#endif

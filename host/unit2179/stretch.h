@@ -1,0 +1,31 @@
+/* Stretches: the characters between two idle marks, put together from what a line brings. Times are nanoseconds of one clock. */
+#ifndef UNIT2179_STRETCH_H
+#define UNIT2179_STRETCH_H
+
+#include <stdbool.h>
+#include <stddef.h>
+#include <stdint.h>
+
+#include "osturdam.h"
+
+/* One character more than the longest frame: a longer stretch is refused for its length, so no more of it is needed. */
+enum { STRETCH_KEPT = OSTURDAM_FRAME + 1 };
+
+struct stretch {
+    uint8_t chars[STRETCH_KEPT];
+    size_t heard;
+    int64_t latest; /* when the latest character was seen */
+};
+
+/* How long a line is quiet at an idle mark. */
+struct quiet {
+    int64_t gap;        /* behind any character */
+    int64_t suspension; /* behind the header of a Set Time, where a master suspends its sending */
+};
+
+void stretch_take(struct stretch *s, const uint8_t *chars, size_t many, int64_t now);
+
+/* When the line, if no character comes, is idle; only of a stretch that has begun. */
+int64_t stretch_due(const struct stretch *s, const struct quiet *quiet);
+
+#endif

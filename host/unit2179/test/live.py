@@ -1,0 +1,111 @@
+"""A live unit in a process of its own, for tests."""
+import os
+import select
+import shutil
+import signal
+import subprocess
+import sys
+import tempfile
+import time
+import tty
+import unittest
+
+HERE = os.path.dirname(os.path.abspath(__file__))
+ROOT = os.path.dirname(os.path.dirname(os.path.dirname(HERE)))
+SAMPLE = os.path.join(ROOT, 'samples', 'unit2179.conf')
+RUN = os.environ['UNIT2179'].split()
+MEMORY = '/dev/shm'  # a kill loses nothing that was written, so no test need wait for a busy disk
+UNIT, A, B = 1234, 1, 2
+
+sys.path.insert(0, os.path.dirname(HERE))
+from wire import Wire, frame  # noqa: E402
+
+
+def until(found, seconds=10):
+    """Waits for what `found` answers, which must come within some seconds."""
+    end = time.monotonic() + seconds
+    while time.monotonic() < end:
+        answer = found()
+        if answer:
+            return answer
+        time.sleep(0.002)
+    raise AssertionError('what was waited for did not come')
+
+
+class Unit:
+    """A unit that has begun to serve; its log is read from file `log` of the folder."""
+
+    def __init__(self, folder, *options):
+        self.log_path = os.path.join(folder, 'log')
+        self.errors_path = os.path.join(folder, 'errors')
+        with open(self.errors_path, 'a') as errors:
+            self.process = subprocess.Popen([*RUN, '--log', self.log_path, *options], cwd=folder, stdin=subprocess.DEVNULL,
+                                            stdout=subprocess.PIPE, stderr=errors)
+        self.told = self.line()
+        self.name = self.told.rpartition(' ')[2]
+
+    def line(self, seconds=10):
+        """The next line of standard output."""
+        if not select.select([self.process.stdout], [], [], seconds)[0]:
+            raise AssertionError('the unit says nothing')
+        return self.process.stdout.readline().decode().rstrip('\n')
+
+    def log(self, kind=''):
+        """The log's whole lines, each as its fields."""
+        with open(self.log_path) as log:
+            lines = log.read().split('\n')[:-1]
+        return [line.split('\t') for line in lines if line.startswith(kind)]
+
+    def errors(self):
+        with open(self.errors_path) as errors:
+            return errors.read()
+
+    def end(self, how=signal.SIGTERM):
+        if self.process.poll() is None:
+            self.process.send_signal(how)
+        status = self.process.wait(10)
+        self.process.stdout.close()
+        return status
+
+
+class LiveTest(unittest.TestCase):
+    """A folder, and units and wires that end with the test."""
+
+    def setUp(self):
+        self.folder = tempfile.mkdtemp(prefix='unit2179-', dir=MEMORY if os.access(MEMORY, os.W_OK) else None)
+        self.addCleanup(shutil.rmtree, self.folder)
+
+    def path(self, name):
+        return os.path.join(self.folder, name)
+
+    def write(self, name, text):
+        with open(self.path(name), 'w') as file:
+            file.write(text)
+        return self.path(name)
+
+    def unit(self, *options):
+        unit = Unit(self.folder, *options)
+        self.addCleanup(unit.end, signal.SIGKILL)
+        return unit
+
+    def wire(self, place):
+        wire = Wire(place)
+        self.addCleanup(wire.close)
+        return wire
+
+    def pair(self):
+        """A pseudo-terminal pair that outlives units: the masters' end, and the name of the unit's."""
+        masters, units = os.openpty()
+        tty.setraw(units)
+        self.addCleanup(os.close, masters)
+        self.addCleanup(os.close, units)
+        return self.wire(masters), os.ttyname(units)
+
+    def tell(self, fifo, *lines):
+        with open(self.path(fifo), 'w') as file:
+            file.write(''.join(line + '\n' for line in lines))
+
+    def refused(self, *options):
+        """Runs a unit that does not begin. Answers its exit status and what it said."""
+        done = subprocess.run([*RUN, *options], cwd=self.folder, stdin=subprocess.DEVNULL, capture_output=True, text=True, timeout=10)
+        return done.returncode, done.stderr

@@ -1,0 +1,140 @@
+"""What a line brings, cut into stretches: noise, gaps, the Set Time suspension, connections."""
+import os
+import random
+import socket
+import time
+
+from live import A, B, SAMPLE, UNIT, LiveTest, frame, until
+
+POLL = frame(A, UNIT, 0x00, 0x41)
+SET_TIME = frame(A, UNIT, 0x20, 0x38, bytes([0x03, 0x66, 0x23, 0x59, 0x58, 0x03, 0xE7]))
+OTHER_SET_TIME = frame(A, 77, 0x20, 0x38, bytes([0x03, 0x66, 0x23, 0x59, 0x58, 0x03, 0xE7]))
+FINE, DAMAGED = 0x54, 0x56
+
+
+class Stretches(LiveTest):
+    def begin(self, gap='50', *options):
+        wire, name = self.pair()
+        return self.unit('--serial', name, '--gap', gap, *options), wire
+
+    def heard(self, unit, wire, chars):
+        """Sends characters, waits until they were a stretch, and answers it with its outcome."""
+        before = len(unit.log('R'))
+        wire.send(chars)
+        _, stretch, outcome, _ = until(lambda: unit.log('R')[before:])[0]
+        return bytes.fromhex(stretch), int(outcome)
+
+    def test_noise_is_not_answered_and_shows_once(self):
+        unit, wire = self.begin()
+        self.assertEqual(wire.ask(POLL).port, FINE)
+        for noise in (b'\0', b'\xFF' * 7, random.Random(2179).randbytes(20), POLL[:-1], POLL[:3] + b'\x40' + POLL[4:], b'x' * 600, POLL + POLL):
+            self.assertIn(self.heard(unit, wire, noise)[1], (1, 2))
+            self.assertEqual([wire.ask(POLL).port for _ in range(2)], [DAMAGED, FINE])
+        self.assertEqual(unit.end(), 0)
+
+    def test_another_units_frame_is_not_answered_and_leaves_no_mark(self):
+        unit, wire = self.begin()
+        self.assertEqual(self.heard(unit, wire, frame(A, 1, 0x00, 0x41)), (frame(A, 1, 0x00, 0x41), 3))
+        self.assertEqual(wire.ask(POLL).port, FINE)
+
+    def test_a_frame_in_parts_within_the_gap_is_one_stretch(self):
+        unit, wire = self.begin('800')
+        for char in POLL:
+            wire.send(bytes([char]))
+            time.sleep(0.005)
+        self.assertEqual(wire.receive(5).port, FINE)
+        self.assertEqual([line[1] for line in unit.log('R')], [POLL.hex().upper()])
+
+    def test_a_frame_in_parts_beyond_the_gap_is_two_stretches(self):
+        unit, wire = self.begin()
+        self.assertEqual(self.heard(unit, wire, POLL[:5]), (POLL[:5], 1))
+        self.assertEqual(self.heard(unit, wire, POLL[5:]), (POLL[5:], 1))
+
+    def test_lengths_to_the_limit(self):
+        unit, wire = self.begin()
+        longest = frame(A, UNIT, 0x20, 0x31, bytes(128))
+        self.assertEqual(self.heard(unit, wire, longest), (longest, 14))
+        self.assertEqual(wire.receive(2).function, 0xA0)
+        self.assertEqual(self.heard(unit, wire, longest + b'\0'), (longest + b'\0', 1))
+        self.assertEqual(self.heard(unit, wire, longest * 3), ((longest * 3)[:137], 1))
+
+    def test_a_set_time_may_suspend_behind_its_header(self):
+        unit, wire = self.begin('30', '--suspension', '5000')
+        for suspended, outcome in ((SET_TIME, '0'), (OTHER_SET_TIME, '3'), (frame(A, 0x7FF, 0x20, 0x38, SET_TIME[6:13]), '4')):
+            before = len(unit.log('R'))
+            wire.send(suspended[:4])
+            time.sleep(0.2)
+            wire.send(suspended[4:])
+            self.assertEqual(until(lambda: unit.log('R')[before:])[0][1:3], [suspended.hex().upper(), outcome])
+        wire.drain()
+        time_read = wire.ask(frame(A, UNIT, 0x28, 0x31))
+        self.assertEqual(time_read.port, FINE)
+        self.assertIn(time_read.data[:4], (bytes([3, 0x66, 0x23, 0x59]), bytes([0, 1, 0, 0])))
+
+    def test_the_suspension_is_bounded_and_only_there(self):
+        unit, wire = self.begin('20', '--suspension', '150')
+        began = time.monotonic()
+        self.assertEqual(self.heard(unit, wire, SET_TIME[:4]), (SET_TIME[:4], 1))
+        self.assertGreaterEqual(time.monotonic() - began, 0.15)
+        for cut in (SET_TIME[:3], SET_TIME[:5], POLL[:4]):
+            self.assertEqual(self.heard(unit, wire, cut), (cut, 1))
+
+    def test_the_clock_moves_by_the_milliseconds_that_passed(self):
+        unit, wire = self.begin('20')
+        begins = time.monotonic()
+        wire.ask(SET_TIME)
+        began, before = time.monotonic(), len(unit.log('T'))
+        for _ in range(20):
+            wire.ask(frame(A, UNIT, 0x28, 0x31))
+        time.sleep(1.1)
+        ends = time.monotonic()
+        day_1 = wire.ask(frame(A, UNIT, 0x28, 0x31)).data
+        ended = time.monotonic()
+        passed = sum(int(line[1]) for line in unit.log('T')[before:])
+        self.assertEqual(day_1[:4], bytes([0, 1, 0, 0]), 'day 1 follows day 366')
+        seconds = 10 * (day_1[4] >> 4) + day_1[4] % 16
+        self.assertEqual(1000 * seconds + 256 * day_1[5] + day_1[6], passed - 1001, 'from 23:59:58.999')
+        self.assertTrue(ends - began - 0.002 <= passed / 1000 <= ended - begins + 0.002)
+
+    def test_a_line_that_ends_ends_the_unit(self):
+        masters, units = os.openpty()
+        unit = self.unit('--serial', os.ttyname(units))
+        os.close(units)
+        os.close(masters)
+        self.assertEqual(unit.process.wait(10), 5)
+        self.assertIn('the line has ended', unit.errors())
+
+
+class Connections(LiveTest):
+    def test_two_masters_on_a_port_get_their_own_replies(self):
+        unit = self.unit('--tcp', '0', '--gap', '600', '--config', SAMPLE)
+        self.assertRegex(unit.name, r'^127\.0\.0\.1:\d+$')
+        first, second = self.wire(unit.name), self.wire(unit.name)
+        first.send(frame(A, UNIT, 0x00, 0x41)[:5])
+        second.send(frame(B, UNIT, 0x00, 0x01))
+        first.send(frame(A, UNIT, 0x00, 0x41)[5:])
+        self.assertEqual(first.receive(5).address >> 11, A)
+        self.assertEqual(second.receive(5).address >> 11, B)
+
+    def test_a_connection_that_stops_sending_still_gets_its_reply(self):
+        unit = self.unit('--tcp', '127.0.0.1:0', '--gap', '5000')
+        wire = self.wire(unit.name)
+        wire.send(POLL)
+        wire.socket.shutdown(socket.SHUT_WR)
+        self.assertEqual(wire.receive(3).port, FINE)
+        self.assertEqual(wire.socket.recv(1), b'')
+
+    def test_more_connections_than_there_are_channels(self):
+        unit = self.unit('--tcp', '0')
+        wires = [self.wire(unit.name) for _ in range(9)]
+        self.assertEqual(wires[8].socket.recv(1), b'', 'the ninth is turned away')
+        for wire in wires[:8]:
+            self.assertTrue(wire.ask(POLL))
+        wires[0].socket.shutdown(socket.SHUT_WR)
+        self.assertEqual(wires[0].socket.recv(1), b'')
+        self.assertTrue(self.wire(unit.name).ask(POLL), 'the room of one that has gone is used again')
+
+    def test_every_character_passes_both_ways(self):
+        wire = self.wire(self.unit().name)
+        for half in (range(0x00, 0x80), range(0x80, 0x100)):
+            self.assertEqual(wire.ask(frame(A, UNIT, 0x03, 0x00, bytes(half))).data, bytes(half), 'numbers not equipped come back')

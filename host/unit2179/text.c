@@ -1,0 +1,60 @@
+#include "text.h"
+
+#include <stdarg.h>
+#include <stdio.h>
+#include <string.h>
+
+void complain(const struct place *at, const char *format, ...)
+{
+    va_list given;
+    va_start(given, format);
+    if (at->line > 0)
+        fprintf(stderr, "%s:%u: ", at->name, at->line);
+    else
+        fprintf(stderr, "%s: ", at->name);
+    vfprintf(stderr, format, given);
+    fputc('\n', stderr);
+    va_end(given);
+}
+
+size_t words_of(char *line, char *words[TEXT_WORDS])
+{
+    static const char blanks[] = " \t\r\n";
+    size_t many = 0;
+    line[strcspn(line, "#")] = '\0';
+    for (char *word = strtok(line, blanks); word; word = strtok(NULL, blanks)) {
+        if (many < TEXT_WORDS)
+            words[many] = word;
+        many++;
+    }
+    return many;
+}
+
+static uint32_t digit_of(char c)
+{
+    if (c >= '0' && c <= '9')
+        return (uint32_t)(c - '0');
+    if (c >= 'A' && c <= 'F')
+        return (uint32_t)(c - 'A') + 10;
+    if (c >= 'a' && c <= 'f')
+        return (uint32_t)(c - 'a') + 10;
+    return UINT32_MAX;
+}
+
+bool number_of(const char *word, uint32_t most, uint32_t *number)
+{
+    size_t length = strlen(word);
+    bool hex = length > 0 && word[length - 1] == 'h';
+    size_t digits = hex ? length - 1 : length;
+    uint32_t base = hex ? 16 : 10;
+    uint64_t value = 0;
+    for (size_t i = 0; i < digits; i++) {
+        if (digit_of(word[i]) >= base)
+            return false;
+        value = value * base + digit_of(word[i]);
+        if (value > most)
+            return false;
+    }
+    *number = (uint32_t)value;
+    return digits > 0;
+}
