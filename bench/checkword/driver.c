@@ -1,9 +1,8 @@
-// Calls one of the three functions once on n fixed characters, after a bitwise check that its answer is right.
+// Calls each of the three functions once on n fixed characters; its answers must be those of the bitwise division.
 #include <stddef.h>
 #include <stdint.h>
 #include <stdio.h>
 #include <stdlib.h>
-#include <string.h>
 
 uint16_t check_word(const uint8_t *s, size_t n);
 uint16_t c_check_word(const uint8_t *s, size_t n);
@@ -20,12 +19,18 @@ static uint16_t bitwise(const uint8_t *s, size_t n)
     return v;
 }
 
+static int wrong(const char *name, uint16_t got, const uint8_t *s, size_t n)
+{
+    if (got == bitwise(s, n))
+        return 0;
+    fprintf(stderr, "%s answers %04x to %zu characters, not %04x\n", name, got, n, bitwise(s, n));
+    return 1;
+}
+
 int main(int argc, char **argv)
 {
     static uint8_t s[1024];
-    if (argc != 3)
-        return 2;
-    size_t n = strtoul(argv[2], NULL, 10);
+    size_t n = argc == 2 ? strtoul(argv[1], NULL, 10) : sizeof s + 1;
     if (n > sizeof s)
         return 2;
     uint32_t seed = 2179;
@@ -33,18 +38,6 @@ int main(int argc, char **argv)
         seed = seed * 1103515245 + 12345;
         s[i] = seed >> 16;
     }
-    uint16_t got;
-    if (strcmp(argv[1], "check_word") == 0)
-        got = check_word(s, n);
-    else if (strcmp(argv[1], "c_check_word") == 0)
-        got = c_check_word(s, n);
-    else if (strcmp(argv[1], "rust_check_word") == 0)
-        got = rust_check_word(s, n);
-    else
-        return 2;
-    if (got != bitwise(s, n)) {
-        fprintf(stderr, "%s answers %04x to %zu characters, not %04x\n", argv[1], got, n, bitwise(s, n));
-        return 1;
-    }
-    return 0;
+    return wrong("check_word", check_word(s, n), s, n) || wrong("C", c_check_word(s, n), s, n) ||
+           wrong("Rust", rust_check_word(s, n), s, n);
 }

@@ -1,0 +1,75 @@
+// One row of the table: units are brought to where it stands by events, then one event is counted.
+#include "setting.h"
+
+#include <stdio.h>
+#include <string.h>
+
+// Table 2 names table 1 twice: 120, 120 and 15 words.
+static void three_parts(void)
+{
+    uint8_t area[256] = { 0x00, 120, [122] = 0x11, [123] = 15 };
+    for (int i = 0; i < 120; i++)
+        area[2 + i] = 0x80 + i;
+    for (int i = 0; i < 15; i++)
+        area[124 + i] = i;
+    write_tables(area);
+}
+
+static void points(void)
+{
+    ask(0x00, 0x4D, "", 0, 1, OSTURDAM_DONE);
+}
+
+static void table(void)
+{
+    three_parts();
+    ask(0x0A, 0x42, "", 0, 1, OSTURDAM_DONE);
+}
+
+static void values(void)
+{
+    ask(0x03, 0x80, "", 0, 1, OSTURDAM_DONE);
+}
+
+static void dump(void)
+{
+    store(0, 32);
+    ask(0x04, 0x60, "", 0, 1, OSTURDAM_DONE);
+}
+
+static void one_more(void)
+{
+    uint16_t given[OSTURDAM_VALUES] = { 1, 2, 3, 4, 5, 6, 7, 8, 9, 10, 11, 12, 13, 14, 15, 65535 };
+    store(0, 12);
+    expect("a record", store_record(&u, 0, 7, given, OSTURDAM_VALUES, 1), OSTURDAM_STORED);
+}
+
+// The acknowledging request names an empty file, so that nothing but the release is long.
+static void release(void)
+{
+    store(0, 32);
+    ask(0x04, 0x60, "", 0, 0, OSTURDAM_DONE);
+    ask(0x04, 0x41, "", 0, 1, OSTURDAM_DONE);
+}
+
+static void refused(void)
+{
+    ask(0x10, 0x10, "\x63", 1, 1, OSTURDAM_NOT_VALID);
+}
+
+int main(int argc, char **argv)
+{
+    static const struct {
+        const char *name;
+        void (*run)(void);
+    } rows[] = { { "points", points }, { "table", table }, { "values", values }, { "dump", dump },
+                 { "store", one_more }, { "release", release }, { "refused", refused } };
+    equip(POINTS);
+    for (size_t i = 0; argc == 2 && i < sizeof rows / sizeof rows[0]; i++)
+        if (strcmp(argv[1], rows[i].name) == 0) {
+            rows[i].run();
+            return 0;
+        }
+    fprintf(stderr, "usage: rows points | table | values | dump | store | release | refused\n");
+    return 2;
+}

@@ -1,0 +1,102 @@
+//! The independent program's unit behind C functions, with the structs of include/osturdam.h.
+
+use independent::{Config, State};
+use std::mem::size_of;
+use std::slice;
+
+/// The configuration as C lays it out.
+#[repr(C)]
+pub struct CConfig {
+    unit: u16,
+    length: usize,
+    inputs: [u8; 256],
+    outputs: [u8; 256],
+    calculations: [u8; 256],
+    files: [u8; 32],
+    values: [u8; 32],
+}
+
+/// How a stretch ended, as C lays it out.
+#[repr(C)]
+pub struct Turned {
+    sent: usize,
+    outcome: u8,
+    action: u8,
+    output: u8,
+}
+
+/// A configuration and a unit that lie together.
+pub struct Unit {
+    config: Config,
+    state: State,
+    params: Vec<u8>,
+}
+
+fn config(c: &CConfig) -> Config {
+    let mut config = Config::new(c.unit);
+    config.inputs = c.inputs.map(|equipped| equipped != 0);
+    config.outputs = c.outputs.map(|equipped| equipped != 0);
+    config.calculations = c.calculations.map(|equipped| equipped != 0);
+    for (file, values) in config.files.iter_mut().enumerate() {
+        *values = (c.files[file] != 0).then_some(c.values[file]);
+    }
+    config.parameter_length = c.length;
+    config
+}
+
+/// A fresh unit, which is never given back.
+#[no_mangle]
+pub extern "C" fn rust_fresh(c: &CConfig) -> *mut Unit {
+    let config = config(c);
+    let params = vec![0; config.parameter_length];
+    let state = State::fresh();
+    Box::into_raw(Box::new(Unit { config, state, params }))
+}
+
+/// # Safety
+/// The caller hands over `heard` characters at `stretch` and `room` at `buffer`, which do not overlap.
+#[no_mangle]
+pub unsafe extern "C" fn rust_stretch(u: &mut Unit, stretch: *const u8, heard: usize, buffer: *mut u8, room: usize) -> Turned {
+    let stretch = slice::from_raw_parts(stretch, heard);
+    let buffer = slice::from_raw_parts_mut(buffer, room);
+    let answer = independent::stretch(&u.config, &mut u.state, &mut u.params, buffer, stretch);
+    let (action, output) = answer.action.map_or((0, 0), |done| (1 + u8::from(done.close), done.output));
+    Turned { sent: answer.sent, outcome: answer.outcome, action, output }
+}
+
+#[no_mangle]
+pub extern "C" fn rust_elapsed(u: &mut Unit, ms: u32) -> u8 {
+    independent::elapsed(&u.config, &mut u.state, &u.params, ms)
+}
+
+#[no_mangle]
+pub extern "C" fn rust_set_word(u: &mut Unit, input: u8, word: u16) -> u8 {
+    independent::set_word(&u.config, &mut u.state, &u.params, input, word)
+}
+
+#[no_mangle]
+pub extern "C" fn rust_pulses(u: &mut Unit, input: u8, count: u16) -> u8 {
+    independent::pulses(&u.config, &mut u.state, &u.params, input, count)
+}
+
+#[no_mangle]
+pub extern "C" fn rust_set_value(u: &mut Unit, calculation: u8, value: u32) -> u8 {
+    independent::set_value(&u.config, &mut u.state, &u.params, calculation, value)
+}
+
+/// # Safety
+/// The caller hands over `many` values at `given`.
+#[no_mangle]
+pub unsafe extern "C" fn rust_store_record(u: &mut Unit, file: u8, event: u8, given: *const u16, many: usize) -> u8 {
+    let given = slice::from_raw_parts(given, many);
+    independent::store(&u.config, &mut u.state, &u.params, file, event, given)
+}
+
+/// The bytes of the configuration, and of the unit with all that it has on the heap.
+#[no_mangle]
+pub extern "C" fn rust_bytes(u: &Unit, config: &mut usize) -> usize {
+    let records = |file: &Vec<Vec<u8>>| file.capacity() * size_of::<Vec<u8>>() + file.iter().map(Vec::capacity).sum::<usize>();
+    let files = u.state.files.capacity() * size_of::<Vec<Vec<u8>>>() + u.state.files.iter().map(records).sum::<usize>();
+    *config = size_of::<Config>();
+    size_of::<State>() + size_of::<Vec<u8>>() + u.params.capacity() + files
+}

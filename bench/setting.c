@@ -1,0 +1,79 @@
+// Units brought by events to where a row stands.
+#include "setting.h"
+
+#include <stdio.h>
+#include <stdlib.h>
+#include <string.h>
+
+enum { MASTER = 1, UNIT = 1234 };
+
+struct units u;
+
+void expect(const char *what, unsigned got, unsigned wanted)
+{
+    if (got != wanted) {
+        fprintf(stderr, "%s ends with %u, not %u\n", what, got, wanted);
+        exit(1);
+    }
+}
+
+void ask(unsigned function, unsigned command, const void *data, size_t count, int counted, unsigned wanted)
+{
+    uint8_t s[OSTURDAM_FRAME];
+    size_t n = frame(s, MASTER, UNIT, function, command, data, count);
+    expect("a request", stretch(&u, s, n, counted), wanted);
+}
+
+// The analogs first, then status, then accumulators; what is no point comes after all of them.
+static int place(int input)
+{
+    if (input >= 0x80)
+        return input - 0x80;
+    if (input < 0x20)
+        return 128 + input;
+    return input >= 0x30 && input < 0x60 ? 160 + input - 0x30 : POINTS;
+}
+
+static void fill(void)
+{
+    for (int i = 0; i < OSTURDAM_INPUTS; i++)
+        if (u.config.inputs[i] && i >= 0x40 && i < 0x60)
+            expect("pulses", pulses(&u, i, 1000 + i), OSTURDAM_DONE);
+        else if (u.config.inputs[i])
+            expect("a word", set_word(&u, i, 257 * i + 3), OSTURDAM_DONE);
+    for (int i = 0; i < 127; i++)
+        expect("a value", set_value(&u, i, 0x01030507u * i), OSTURDAM_DONE);
+}
+
+void equip(int points)
+{
+    struct osturdam_config *c = &u.config;
+    c->unit = UNIT;
+    c->length = OSTURDAM_BLOCK;
+    for (int i = 0; i < OSTURDAM_INPUTS; i++)
+        c->inputs[i] = place(i) < points;
+    memset(c->outputs, 1, 16);
+    memset(c->calculations, 1, 127);
+    memset(c->files, 1, sizeof c->files);
+    memset(c->values, OSTURDAM_VALUES, sizeof c->values);
+    fresh(&u);
+    fill();
+}
+
+void store(int file, int n)
+{
+    uint16_t given[OSTURDAM_VALUES];
+    for (int k = 0; k < n; k++) {
+        for (int i = 0; i < OSTURDAM_VALUES; i++)
+            given[i] = 1000 * k + i;
+        expect("a record", store_record(&u, file, k, given, OSTURDAM_VALUES, 0), OSTURDAM_STORED);
+    }
+}
+
+void write_tables(const uint8_t area[256])
+{
+    ask(0x20, 0x30, "\x00\x00\x03", 3, 0, OSTURDAM_WRITE_TAKEN);
+    ask(0x20, 0x31, area, 128, 0, OSTURDAM_DONE);
+    ask(0x20, 0x30, "\x80\x00\x03", 3, 0, OSTURDAM_WRITE_TAKEN);
+    ask(0x20, 0x31, area + 128, 128, 0, OSTURDAM_DONE);
+}
