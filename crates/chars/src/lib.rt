@@ -27,16 +27,24 @@ pub fn room(len: usize, at: usize, n: usize) -> usize
     left
 }
 
-// The n characters of src from index from on go over dst from index at on, as far as both reach.
+// The n characters of src from index from on go over dst from index at on. The caller knows that both reach: this stands in inner loops.
+pub fn copy_all(src: &[u8], from: usize, n: usize, dst: &mut [u8], at: usize)
+    requires { ⌜ (n ≤ length (now src) - from) × (n ≤ length (now dst) - at) ⌝ }
+    ensures { λ _. ⌜ now (dst .exit) ≡ put (now (dst .entry)) at (part (now (src .entry)) from n) ⌝ }
+{
+    let mut i = 0;
+    while i < n {
+        dst[at + i] = src[from + i];
+        i += 1;
+    }
+}
+
+// The same as far as both reach.
 pub fn copy(src: &[u8], from: usize, n: usize, dst: &mut [u8], at: usize)
     ensures { λ _. ⌜ now (dst .exit) ≡ put (now (dst .entry)) at (part (now (src .entry)) from n) ⌝ }
 {
     let count = room(dst.len(), at, room(src.len(), from, n));
-    let mut i = 0;
-    while i < count {
-        dst[at + i] = src[from + i];
-        i += 1;
-    }
+    copy_all(src, from, count, dst, at);
 }
 
 // The n characters of a from by past index to on go down to index to on, as far as a reaches; the two ranges may overlap.
