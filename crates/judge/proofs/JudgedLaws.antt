@@ -9,6 +9,7 @@ use mathlib.Core.Bool.{Bool, true, false, _&&_}
 use lib.ListN.{length, getD, length-replicate, drop, length-drop, List·getD-eq-default}
 use lib.Seq.{take-all}
 use lib.Dec.{eqb, leb, ltb}
+use lib.Bits.{bitOr, or-zero-l, or-add-and, and-le-r}
 use borrow.Author.Tests.{ltb-true, ltb-false, lt-ltb, le-leb, lt-leb, eq-eqb, ne-eqb}
 use Rattle.chars.specs.Put.{part}
 use Rattle.chars.specs.Gather.{upFrom}
@@ -92,12 +93,16 @@ none-next table low i =
     (λ e. let h = ltb-false (low + i) (length table) e in
     rw (part-clipped table low i h, List·getD-eq-default table 0 {n = low + i} h) (sym (and-true _)))
 
-module _ (table : List ℕ) (low i : ℕ) {b : Bool} where
-  pub none-passed : b ≡ noneIn table low i → eqb (getD table (low + i) 0) 0 ≡ true → b ≡ noneIn table low (i + 1)
-  none-passed e p = rw (none-next, p, and-true) e
+-- numbers joined by or are 0 where both are
+or-none : (a b : ℕ) → eqb (bitOr a b) 0 ≡ (eqb a 0 && eqb b 0)
+or-none zero b = rw or-zero-l
+or-none (suc a) b =
+    let e : bitOr (suc a) b ≡ 0 → ⊥ = λ q. omega (arith, or-add-and (suc a) b, and-le-r (suc a) b) in
+    let k : suc a ≡ 0 → ⊥ = λ q. omega arith in
+    rw (ne-eqb (bitOr (suc a) b) 0 e, ne-eqb (suc a) 0 k)
 
-  pub none-failed : b ≡ false → eqb (getD table (low + i) 0) 0 ≡ false → b ≡ noneIn table low (i + 1)
-  none-failed e p = rw (none-next, p, and-false) e
+pub none-joined : (table : List ℕ) (low i any : ℕ) → eqb any 0 ≡ noneIn table low i → eqb (bitOr any (getD table (low + i) 0)) 0 ≡ noneIn table low (i + 1)
+none-joined table low i any e = rw (or-none, none-next, e)
 
 -- ---- what stands in for the records
 
