@@ -1,25 +1,26 @@
 // The C interface: one call an event, over numbers and arrays that the caller owns. No enum crosses it, so that every pattern of
 // the kept numbers means something, and numbers that no unit writes are turned away: by 18 where the buffer is short, else by 17.
+mod answers;
+
+use answers::answer_number;
+use answers::shown;
+use answers::unread;
 use frames::outcomes::number;
 use model::Action;
-use model::Answer;
 use model::File;
 use model::Input;
 use model::Outcome;
 use model::Reply;
 use model::SpecialCalculation;
-use model::Stored;
 use numbers::numbers;
 use numbers::opening;
 ghost use mathlib.Core.Path.{_≡_};
 ghost use mathlib.Core.List.{List};
-ghost use mathlib.Core.Bool.{cond};
 ghost use Prim.Native.Nat.{ℕ};
 ghost use lib.ListN.{length};
 ghost use Rattle.model.specs.Step.{elapsed, setWord, setValue, pulses, store};
-ghost use Rattle.model.specs.Outcome.{numberOf, storedNumber, answerNumber};
 ghost use Rattle.judge.specs.Judged.{configOf};
-ghost use Rattle.board.specs.Told.{ownedOf, turnedBy, Serves, Tells, Freshly};
+ghost use Rattle.board.specs.Told.{ownedOf, Serves, Tells, Freshly};
 
 // How a stretch ended: how many characters of the buffer are to be sent, the outcome's number, and what the control outputs do.
 #[repr(C)]
@@ -28,61 +29,6 @@ pub struct Turned {
     pub outcome: u8,
     pub action: u8,
     pub output: u8,
-}
-
-fn stored_number(stored: Stored) -> u8
-    ensures { λ r. ⌜ r ≡ storedNumber stored ⌝ }
-{
-    match stored {
-        Stored::Kept => 0,
-        Stored::Full => 1,
-        Stored::NotEquipped => 2,
-        Stored::WrongValues => 3,
-    }
-}
-
-fn answer_number(answer: Answer) -> u8
-    ensures { λ r. ⌜ r ≡ answerNumber answer ⌝ }
-{
-    match answer {
-        Answer::Ended(outcome) => number(outcome),
-        Answer::Storing(stored) => stored_number(stored),
-    }
-}
-
-// How numbers that no unit writes are answered.
-fn unread() -> u8
-    ensures { λ r. ⌜ r ≡ numberOf Outcome.NotConfigured ⌝ }
-{
-    number(Outcome::NotConfigured)
-}
-
-fn shown(sent: usize, outcome: Outcome, action: Action) -> Turned
-    ensures { λ r. ⌜ r ≡ turnedBy sent outcome action ⌝ }
-{
-    match action {
-        Action::Rest => Turned {
-            sent: sent,
-            outcome: number(outcome),
-            action: 0,
-            output: 0,
-        },
-        Action::Operate { output, close } => Turned {
-            sent: sent,
-            outcome: number(outcome),
-            action: operated(close),
-            output: output.0,
-        },
-    }
-}
-
-fn operated(close: bool) -> u8
-    ensures { λ r. ⌜ r ≡ cond close 2 1 ⌝ }
-{
-    if close {
-        return 2;
-    }
-    1
 }
 
 #[no_mangle]

@@ -1,7 +1,7 @@
--- `board::answer_number` meets its contract. Assumes nothing.
+-- `board::answers::answer_number` meets its contract. Assumes nothing.
 use borrow.Author.Needs.{needs}
-use Rattle.board.proofs.answer_number.Statement.{statement}
-use Rattle.board.proofs.answer_number.Tie as tie
+use Rattle.board.proofs.answers.answer_number.Statement.{statement}
+use Rattle.board.proofs.answers.answer_number.Tie as tie
 
 enum-known-answer : tie.Need-enum-known-answer
 enum-known-answer c = search needs

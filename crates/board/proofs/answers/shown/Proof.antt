@@ -1,8 +1,8 @@
--- `board::shown` meets its contract. Assumes nothing.
+-- `board::answers::shown` meets its contract. Assumes nothing.
 use Rattle.board.proofs.ToldLaws.{shown-rest, shown-operate}
 use borrow.Author.Needs.{needs}
-use Rattle.board.proofs.shown.Statement.{statement}
-use Rattle.board.proofs.shown.Tie as tie
+use Rattle.board.proofs.answers.shown.Statement.{statement}
+use Rattle.board.proofs.answers.shown.Tie as tie
 
 enum-told : tie.Need-enum-told
 enum-told c = search needs

@@ -1,0 +1,66 @@
+// Answers in the numbers that a caller in C reads.
+use super::Turned;
+use frames::outcomes::number;
+use model::Action;
+use model::Answer;
+use model::Outcome;
+use model::Stored;
+ghost use mathlib.Core.Path.{_≡_};
+ghost use mathlib.Core.Bool.{cond};
+ghost use Rattle.model.specs.Outcome.{numberOf, storedNumber, answerNumber};
+ghost use Rattle.board.specs.Told.{turnedBy};
+
+fn stored_number(stored: Stored) -> u8
+    ensures { λ r. ⌜ r ≡ storedNumber stored ⌝ }
+{
+    match stored {
+        Stored::Kept => 0,
+        Stored::Full => 1,
+        Stored::NotEquipped => 2,
+        Stored::WrongValues => 3,
+    }
+}
+
+pub fn answer_number(answer: Answer) -> u8
+    ensures { λ r. ⌜ r ≡ answerNumber answer ⌝ }
+{
+    match answer {
+        Answer::Ended(outcome) => number(outcome),
+        Answer::Storing(stored) => stored_number(stored),
+    }
+}
+
+// How numbers that no unit writes are answered.
+pub fn unread() -> u8
+    ensures { λ r. ⌜ r ≡ numberOf Outcome.NotConfigured ⌝ }
+{
+    number(Outcome::NotConfigured)
+}
+
+pub fn shown(sent: usize, outcome: Outcome, action: Action) -> Turned
+    ensures { λ r. ⌜ r ≡ turnedBy sent outcome action ⌝ }
+{
+    match action {
+        Action::Rest => Turned {
+            sent: sent,
+            outcome: number(outcome),
+            action: 0,
+            output: 0,
+        },
+        Action::Operate { output, close } => Turned {
+            sent: sent,
+            outcome: number(outcome),
+            action: operated(close),
+            output: output.0,
+        },
+    }
+}
+
+fn operated(close: bool) -> u8
+    ensures { λ r. ⌜ r ≡ cond close 2 1 ⌝ }
+{
+    if close {
+        return 2;
+    }
+    1
+}
