@@ -32,10 +32,10 @@ ended-same : (o p : Outcome) → Ended o ≡ Ended p → o ≡ p
 ended-same o p e = cc
 
 -- broadcast
-pub one-made : (m : Made) (mark : Mark) (fs : Files) (entry : List ℕ) {a b : Areas} {exit exit′ : List ℕ} (r t : MadeOf)
-    → Makes m mark (innerOf (r .core) a (r .memory) fs) entry exit r → Makes m mark (innerOf (t .core) b (t .memory) fs) entry exit′ t
+pub one-made : (m : Made) (mark : Mark) (entry : List ℕ) {a b : Areas} {fs gs : Files} {exit exit′ : List ℕ} (r t : MadeOf)
+    → Makes m mark (innerOf (r .core) a (r .memory) fs) entry exit r → Makes m mark (innerOf (t .core) b (t .memory) gs) entry exit′ t
     → (r ≡ t) × (a ≡ b) × (exit ≡ exit′)
-one-made m mark fs entry r t x y =
+one-made m mark entry r t x y =
     let z = x .inner ∙ sym (y .inner) in
     let o = ended-same (r .outcome) (t .outcome) (x .answered ∙ sym (y .answered)) in (
       λ i. record {

@@ -3,3 +3,4 @@ pub mod StepLaws
 pub mod TameLaws
 pub mod TellingLaws
 pub mod ServedLaws
+pub mod Unique
