@@ -1,23 +1,11 @@
 """Lines for the bench program: what tools/bench-stdin and tools/bench-lines share."""
+import frames
+
 UNIT, ALL = 1234, 0x7FF
 
 
-def check(characters):
-    word = 0
-    for character in characters:
-        word ^= character
-        for _ in range(8):
-            word = word >> 1 ^ (0xA001 if word & 1 else 0)
-    return word
-
-
-def checked(characters):
-    return characters + check(characters).to_bytes(2, 'little')
-
-
 def frame(function, command, data=b'', master=1, unit=UNIT):
-    address = (master << 11 | unit).to_bytes(2, 'little')
-    return checked(address + bytes([function, command]) + len(data).to_bytes(2, 'little') + data)
+    return frames.frame(master, unit, function, command, data)
 
 
 def heard(stretch):

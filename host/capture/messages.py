@@ -45,21 +45,6 @@ def word(chars, at):
     return int.from_bytes(chars[at:at + 2], 'little')
 
 
-def check_of(chars):
-    """The check word, worked apart from the library's."""
-    check = 0
-    for char in chars:
-        check ^= char
-        for _ in range(8):
-            check = check >> 1 ^ 0xA001 if check & 1 else check >> 1
-    return check
-
-
-def checked(chars):
-    """The characters before a check, with the right one behind them."""
-    return chars + struct.pack('<H', check_of(chars))
-
-
 class Exchange:
     """The lines that host/capture/exchange.c prints, read: messages, equipped inputs and calculations, values of each file."""
 

@@ -1,31 +1,16 @@
-"""A master's end of a line: frames with their check characters, sent to a device, a pseudo-terminal or a TCP port."""
+"""A master's end of a line: frames sent to a device, a pseudo-terminal or a TCP port, and the replies that come."""
 import collections
 import os
 import select
 import socket
+import sys
 import time
 import tty
 
+sys.path.insert(0, os.path.join(os.path.dirname(os.path.abspath(__file__)), '..', '..', 'tools'))
+from frames import check  # noqa: E402
+
 Reply = collections.namedtuple('Reply', 'address function status port data chars')
-
-
-def check(chars):
-    """The check word by plain division, low bit of each character first."""
-    word = 0
-    for c in chars:
-        word ^= c
-        for _ in range(8):
-            word = word >> 1 ^ (0xA001 if word & 1 else 0)
-    return word
-
-
-def whole(chars):
-    """Characters with their check characters behind them."""
-    return chars + check(chars).to_bytes(2, 'little')
-
-
-def frame(master, unit, function, command, data=b''):
-    return whole((unit | master << 11).to_bytes(2, 'little') + bytes([function, command]) + len(data).to_bytes(2, 'little') + data)
 
 
 class Wire:
