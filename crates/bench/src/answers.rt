@@ -9,6 +9,7 @@ use model::Port;
 ghost use mathlib.Core.Path.{_≡_};
 ghost use Prim.Native.Nat.{_+_, _≤_, _<_};
 ghost use lib.ListN.{length};
+ghost use Rattle.model.specs.State.{freshCore, freshPort};
 ghost use Rattle.model.specs.Bench.{benchConfig};
 ghost use Rattle.bench.specs.Flow.{Flows};
 
@@ -28,7 +29,9 @@ pub struct Ended {
     pub sent: usize,
 }
 
-pub fn fresh() -> Kept {
+pub fn fresh() -> Kept
+    ensures { λ r. ⌜ r ≡ record { core = freshCore; memory = Memory.Nothing; port = freshPort } ⌝ }
+{
     Kept {
         core: unit::fresh_core(),
         memory: unit::fresh_memory(),
