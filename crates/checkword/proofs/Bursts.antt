@@ -11,10 +11,10 @@ use lib.Bits.{bitXor, xor-self, xor-shr, xor-mod}
 use lib.Pow.{shr-shr}
 use Rattle.chars.specs.Word.{Characters}
 use Rattle.checkword.specs.Check.{checkFrom}
-use Rattle.checkword.specs.Line.{bitAt, Burst}
+use Rattle.checkword.specs.Line.{bitAt, line, Burst}
 use Rattle.checkword.proofs.Xor.{xor-zero}
 use Rattle.checkword.proofs.Binary.{multiple, none-set}
-use Rattle.checkword.proofs.Whole.{line, caught}
+use Rattle.checkword.proofs.Whole.{caught}
 use Rattle.checkword.proofs.Line.{line-bit, line-inj}
 
 module _ {s t : List ℕ} {k : ℕ} (hs : Characters s) (ht : Characters t) (b : Burst s t k) where

@@ -1,18 +1,21 @@
--- The bits of a list on the line are the bits of the list as one number, which gives the list back.
+-- The bits of a list on the line are the bits of the list as one number, which gives the list back; and that number part by part.
 -- Assumes nothing.
-use mathlib.Core.Path.{_≡_, refl, sym, ap, ap₂, _∙_}
-use mathlib.Core.List.{List, [], _∷_}
+use mathlib.Core.Path.{_≡_, refl, sym, ap, ap₂, _∙_, subst}
+use mathlib.Core.List.{List, [], _∷_, _++_}
 use Prim.Native.Nat.{ℕ, suc, _+_, _-_, _*_, _/_, _%_, _^_, _≤_, _<_}
-use native.Mathlib.Nat.{zero-div}
+use native.Mathlib.Nat.{zero-div, add-zero, mod-eq-of-lt, mul-mod-left, add-mul-mod-self-right}
 use native.Mathlib.Decide.{decLt}
 use native.Mathlib.Omega.{arith}
-use lib.ListN.{length, getD}
-use lib.Bits.{xor-comm, xor-shifted}
-use lib.Pow.{shr-shr, high}
+use lib.ListN.{length, take, drop, getD}
+use lib.Seq.{drop-cons}
+use lib.Bits.{xor-comm, xor-zero-r, xor-shifted}
+use lib.Pow.{pow-add, mod-pow-add, shl-shr, shr-shr, high}
+use Rattle.chars.specs.Put.{part}
 use Rattle.chars.specs.Word.{Characters}
-use Rattle.checkword.specs.Line.{bitAt}
+use Rattle.chars.proofs.PutLaws.{length-part, part-add}
+use Rattle.chars.proofs.WordLaws.{characters-take, characters-drop}
+use Rattle.checkword.specs.Line.{bitAt, line}
 use Rattle.checkword.proofs.Binary.{low-bit}
-use Rattle.checkword.proofs.Whole.{line}
 
 line-cons : (b : ℕ) (s : List ℕ) → b < 256 → line (b ∷ s) ≡ line s * 2 ^ 8 + b
 unfolding line
@@ -54,3 +57,72 @@ line-inj (a ∷ s) [] hs ht l e = absurd (omega arith)
 line-inj (a ∷ s) (b ∷ t) hs ht l e =
     let d : line s * 2 ^ 8 + a ≡ line t * 2 ^ 8 + b = sym (line-cons a s (hs 0)) ∙ e ∙ line-cons b t (ht 0) in
     ap₂ _∷_ (omega (arith, hs 0, ht 0)) (line-inj s t (λ i. hs (suc i)) (λ i. ht (suc i)) (omega arith) (omega (arith, hs 0, ht 0)))
+
+-- ---- the number of a part, from those of its parts
+
+eight-up : (n : ℕ) → 2 ^ (8 * suc n) ≡ 2 ^ (8 * n) * 2 ^ 8
+eight-up n = ap (λ k. 2 ^ k) (omega arith) ∙ pow-add 2 (8 * n) 8
+
+line-append : (xs ys : List ℕ) → Characters xs → line (xs ++ ys) ≡ line xs + line ys * 2 ^ (8 * length xs)
+unfolding line
+line-append [] ys h = omega arith
+line-append (x ∷ xs) ys h =
+    line-cons x (xs ++ ys) (h 0)
+    ∙ omega (arith, line-append xs ys (λ i. h (suc i)), line-cons x xs (h 0), ap (λ k. line ys * k) (eight-up (length xs)))
+
+pub line-join : (s : List ℕ) → Characters s → (i m n : ℕ) → i + m ≤ length s
+    → line (part s i (m + n)) ≡ line (part s i m) + line (part s (i + m) n) * 2 ^ (8 * m)
+unfolding part
+line-join s hs i m n h =
+    ap line (part-add s i m n)
+    ∙ line-append (part s i m) (part s (i + m) n) (characters-take m (drop i s) (characters-drop i s hs))
+    ∙ ap (λ k. line (part s i m) + line (part s (i + m) n) * 2 ^ (8 * k)) (length-part s i m h)
+
+pub line-one : (s : List ℕ) (i : ℕ) → i < length s → line (part s i 1) ≡ getD s i 0
+unfolding line part
+line-one s i h = ap (λ l. line (take 1 l)) (drop-cons s i 0 h) ∙ xor-zero-r (getD s i 0)
+
+line-lt : (s : List ℕ) → Characters s → line s < 2 ^ (8 * length s)
+unfolding line
+line-lt [] h = omega arith
+line-lt (c ∷ s) h = omega (arith, line-cons c s (h 0), line-lt s (λ i. h (suc i)), h 0, eight-up (length s))
+
+-- of the first eight characters those from n on fall out of 64 places
+pub line-high : (s : List ℕ) → Characters s → (n : ℕ) → n ≤ 8 → 8 ≤ length s
+    → line (part s 0 8) * 2 ^ (64 - 8 * n) % 2 ^ 64 ≡ line (part s 0 n) * 2 ^ (64 - 8 * n)
+unfolding part
+line-high s hs n h k =
+    let l : 0 + n ≤ length s = omega arith in
+    let g : 64 ≡ 8 * n + (64 - 8 * n) = omega arith in
+    let d : 8 ≡ n + (8 - n) = omega arith in
+    let small : line (part s 0 n) < 2 ^ (8 * n) =
+    subst (λ x. line (part s 0 n) < 2 ^ (8 * x)) (length-part s 0 n l) (line-lt (part s 0 n) (characters-take n s hs)) in
+    ap (λ x. line (part s 0 8) * 2 ^ (64 - 8 * n) % 2 ^ x) g
+    ∙ mod-pow-add (line (part s 0 8) * 2 ^ (64 - 8 * n)) (8 * n) (64 - 8 * n)
+    ∙ ap₂ (λ x y. x % 2 ^ (8 * n) * 2 ^ (64 - 8 * n) + y) (shl-shr (line (part s 0 8)) (64 - 8 * n))
+    (mul-mod-left (line (part s 0 8)) (2 ^ (64 - 8 * n)))
+    ∙ add-zero (line (part s 0 8) % 2 ^ (8 * n) * 2 ^ (64 - 8 * n))
+    ∙ ap (λ x. x * 2 ^ (64 - 8 * n))
+    (ap (λ x. line (part s 0 x) % 2 ^ (8 * n)) d
+    ∙ ap (λ x. x % 2 ^ (8 * n)) (line-join s hs 0 n (8 - n) l)
+    ∙ add-mul-mod-self-right (line (part s 0 n)) (line (part s (0 + n) (8 - n))) (2 ^ (8 * n))
+    ∙ mod-eq-of-lt small)
+
+-- ---- a number of 64 places as eight characters
+
+low-first : (v : ℕ) (s : List ℕ) → line s ≡ v / 2 ^ 8 → line (v % 256 ∷ s) ≡ v
+low-first v s e = line-cons (v % 256) s (omega arith) ∙ omega arith
+
+then : (v k : ℕ) (s : List ℕ) → line s ≡ v / 2 ^ (k + 8) → line (v / 2 ^ k % 256 ∷ s) ≡ v / 2 ^ k
+then v k s e = low-first (v / 2 ^ k) s (e ∙ sym (shr-shr v k 8))
+
+-- the characters of v, low places first, are v again
+pub eight-is : (v : ℕ)
+    → line
+    (v % 256 ∷ v / 2 ^ 8 % 256 ∷ v / 2 ^ 16 % 256 ∷ v / 2 ^ 24 % 256 ∷ v / 2 ^ 32 % 256 ∷ v / 2 ^ 40 % 256 ∷ v / 2 ^ 48 % 256 ∷ v / 2 ^ 56 ∷ [])
+    ≡ v
+eight-is v =
+    low-first v _ (then v 8 _ (then v 16 _ (then v 24 _ (then v 32 _ (then v 40 _ (then v 48 _ top))))))
+  where
+    top : line (v / 2 ^ 56 ∷ []) ≡ v / 2 ^ 56
+    top = unfold line in xor-zero-r (v / 2 ^ 56)

@@ -2,13 +2,17 @@
 -- Assumes nothing.
 use mathlib.Core.Path.{_≡_, refl, sym, ap, ap₂, _∙_}
 use mathlib.Core.List.{List, [], _∷_, _++_}
-use Prim.Native.Nat.{ℕ, _*_, _/_, _%_, _^_, _<_}
+use Prim.Native.Nat.{ℕ, _+_, _*_, _/_, _%_, _^_, _≤_, _<_}
+use native.Mathlib.Nat.{zero-add}
 use native.Mathlib.Omega.{arith}
 use lib.ListN.{length}
 use lib.Bits.{bitXor, xor-comm, xor-self, xor-zero-r, xor-shifted}
 use lib.Pow.{split}
+use Rattle.chars.specs.Put.{part}
 use Rattle.chars.specs.Word.{word}
-use Rattle.checkword.specs.Check.{bitSteps, charStep, checkFrom}
+use Rattle.chars.proofs.PutLaws.{length-part, part-add}
+use Rattle.checkword.specs.Check.{bitSteps, charStep, checkFrom, checkOf}
+use Rattle.checkword.specs.Line.{line}
 use Rattle.checkword.proofs.Xor.{xor-assoc, xor-swap}
 use Rattle.checkword.proofs.Steps.{bitSteps-xor, bitSteps-add, bitSteps-shifted, bitSteps-0, window-zero}
 
@@ -17,11 +21,6 @@ pub joined : (v : ℕ) (s t : List ℕ) → checkFrom v (s ++ t) ≡ checkFrom (
 unfolding checkFrom
 joined v [] t = refl
 joined v (c ∷ s) t = joined (charStep v c) s t
-
--- the list as one number, whose bit i is the i-th on the line
-unfoldable pub line : List ℕ → ℕ
-line [] = 0
-line (c ∷ s) = bitXor c (line s * 2 ^ 8)
 
 pub whole : (v : ℕ) (s : List ℕ) → checkFrom v s ≡ bitSteps (8 * length s) (bitXor v (line s))
 unfolding checkFrom charStep line
@@ -34,6 +33,15 @@ whole v (c ∷ s) =
     ∙ ap (λ x. bitSteps 8 x) (xor-assoc v c (line s * 2 ^ 8)))
     ∙ sym (bitSteps-add 8 (8 * length s) (bitXor v (bitXor c (line s * 2 ^ 8))))
     ∙ ap (λ x. bitSteps x (bitXor v (bitXor c (line s * 2 ^ 8)))) (omega arith)
+
+-- n characters more, from the check word of the i before them
+pub more : (s : List ℕ) (i n : ℕ) → i + n ≤ length s
+    → checkOf (part s 0 (i + n)) ≡ bitSteps (8 * n) (bitXor (checkOf (part s 0 i)) (line (part s i n)))
+more s i n h =
+    ap (λ x. checkOf x) (part-add s 0 i n ∙ ap (λ k. part s 0 i ++ part s k n) (zero-add i))
+    ∙ joined 0 (part s 0 i) (part s i n)
+    ∙ whole (checkOf (part s 0 i)) (part s i n)
+    ∙ ap (λ k. bitSteps (8 * k) (bitXor (checkOf (part s 0 i)) (line (part s i n)))) (length-part s i n h)
 
 -- ---- a list and its check characters leave 0
 
