@@ -2,9 +2,13 @@ pub mod Xor
 pub mod Steps
 pub mod Table
 pub mod Turn
+pub mod Alike
+pub mod Parity
+pub mod Folding
 pub mod Binary
 pub mod Whole
 pub mod Line
 pub mod Bursts
+pub mod Eights
 pub mod Frame
 pub mod Cases

@@ -7,7 +7,7 @@ use lib.Arith.{bin-ind}
 use lib.Bits.{bitXor, differ, xor-step, xor-comm, xor-self, xor-zero-r, xor-shr, xor-mod}
 
 -- a fact of 0 and of 1 is one of each bit
-bit : (P : ℕ → Type 0) → P 0 → P 1 → (n : ℕ) → n < 2 → P n
+pub bit : (P : ℕ → Type 0) → P 0 → P 1 → (n : ℕ) → n < 2 → P n
 bit P p q zero h = p
 bit P p q (suc zero) h = q
 bit P p q (suc (suc n)) h = absurd (omega arith)

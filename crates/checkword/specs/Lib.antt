@@ -1,3 +1,4 @@
 pub mod Check
 pub mod Table
+pub mod Alike
 pub mod Line

@@ -1,0 +1,18 @@
+-- Words by the two factors of the polynomial, x + 1 and x^15 + x + 1 (document 01, "Frames", check sentence).
+use mathlib.Core.Path.{_≡_}
+use Prim.Native.Nat.{ℕ, _%_}
+use lib.Bits.{bitXor}
+use lib.Count.{ones}
+use Rattle.checkword.specs.Check.{bitStep}
+
+-- multiplied by x + 1, which takes the first factor's part away (document 01, "Frames", check sentence)
+unfoldable pub factor : ℕ → ℕ
+factor v = bitXor v (bitStep v)
+
+-- a and b leave the same by the second factor (document 01, "Frames", check sentence)
+pub record Alike (a b : ℕ) : Type 0 where
+  pub same : factor a ≡ factor b
+
+-- 1 where the ones of v are odd, which is what v leaves by the first factor (document 01, "Frames", check sentence)
+unfoldable pub parity : ℕ → ℕ
+parity v = ones v % 2
