@@ -1,7 +1,6 @@
 pub mod Xor
 pub mod Steps
-pub mod Table
-pub mod Turn
+pub mod Words
 pub mod Alike
 pub mod Parity
 pub mod Folding
@@ -9,6 +8,7 @@ pub mod Binary
 pub mod Whole
 pub mod Line
 pub mod Bursts
+pub mod Pairs
 pub mod Eights
 pub mod Frame
 pub mod Cases

@@ -3,7 +3,7 @@ use Prim.Native.Nat.{ℕ, zero, suc}
 use mathlib.Core.List.{List, [], _∷_}
 use Rattle.checkword.specs.Check.{bitSteps}
 
--- f at each of n numbers from i on
+-- f at each of n numbers from i on (document 01, "Frames", check sentence)
 abbrev pub values : (ℕ → ℕ) → ℕ → ℕ → List ℕ
 values f i zero = []
 values f i (suc n) = f i ∷ values f (suc i) n

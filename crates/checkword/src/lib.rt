@@ -1,301 +1,98 @@
-// The check word of a list of characters, worked with a table of 256 words (document 01, "Frames"; paper 1.1.7).
+// The check word of a list of characters, worked with a table; a long list is folded first (document 01, "Frames"; paper 1.1.7).
+mod reading;
+mod table;
+
+use reading::eight;
+use reading::head;
+use table::TABLE;
+use table::by_table;
 ghost use mathlib.Core.Path.{_≡_};
-ghost use Prim.Native.Nat.{_+_, _*_};
+ghost use Prim.Native.Nat.{_%_, _^_, _≤_};
+ghost use lib.ListN.{length};
 ghost use Rattle.checkword.specs.Check.{bitSteps, checkOf};
 ghost use Rattle.checkword.specs.Table.{words};
+ghost use Rattle.checkword.specs.Alike.{Alike, parity};
 
-const TABLE: [u16; 256] = [
-    0x0000,
-    0xc0c1,
-    0xc181,
-    0x0140,
-    0xc301,
-    0x03c0,
-    0x0280,
-    0xc241,
-    0xc601,
-    0x06c0,
-    0x0780,
-    0xc741,
-    0x0500,
-    0xc5c1,
-    0xc481,
-    0x0440,
-    0xcc01,
-    0x0cc0,
-    0x0d80,
-    0xcd41,
-    0x0f00,
-    0xcfc1,
-    0xce81,
-    0x0e40,
-    0x0a00,
-    0xcac1,
-    0xcb81,
-    0x0b40,
-    0xc901,
-    0x09c0,
-    0x0880,
-    0xc841,
-    0xd801,
-    0x18c0,
-    0x1980,
-    0xd941,
-    0x1b00,
-    0xdbc1,
-    0xda81,
-    0x1a40,
-    0x1e00,
-    0xdec1,
-    0xdf81,
-    0x1f40,
-    0xdd01,
-    0x1dc0,
-    0x1c80,
-    0xdc41,
-    0x1400,
-    0xd4c1,
-    0xd581,
-    0x1540,
-    0xd701,
-    0x17c0,
-    0x1680,
-    0xd641,
-    0xd201,
-    0x12c0,
-    0x1380,
-    0xd341,
-    0x1100,
-    0xd1c1,
-    0xd081,
-    0x1040,
-    0xf001,
-    0x30c0,
-    0x3180,
-    0xf141,
-    0x3300,
-    0xf3c1,
-    0xf281,
-    0x3240,
-    0x3600,
-    0xf6c1,
-    0xf781,
-    0x3740,
-    0xf501,
-    0x35c0,
-    0x3480,
-    0xf441,
-    0x3c00,
-    0xfcc1,
-    0xfd81,
-    0x3d40,
-    0xff01,
-    0x3fc0,
-    0x3e80,
-    0xfe41,
-    0xfa01,
-    0x3ac0,
-    0x3b80,
-    0xfb41,
-    0x3900,
-    0xf9c1,
-    0xf881,
-    0x3840,
-    0x2800,
-    0xe8c1,
-    0xe981,
-    0x2940,
-    0xeb01,
-    0x2bc0,
-    0x2a80,
-    0xea41,
-    0xee01,
-    0x2ec0,
-    0x2f80,
-    0xef41,
-    0x2d00,
-    0xedc1,
-    0xec81,
-    0x2c40,
-    0xe401,
-    0x24c0,
-    0x2580,
-    0xe541,
-    0x2700,
-    0xe7c1,
-    0xe681,
-    0x2640,
-    0x2200,
-    0xe2c1,
-    0xe381,
-    0x2340,
-    0xe101,
-    0x21c0,
-    0x2080,
-    0xe041,
-    0xa001,
-    0x60c0,
-    0x6180,
-    0xa141,
-    0x6300,
-    0xa3c1,
-    0xa281,
-    0x6240,
-    0x6600,
-    0xa6c1,
-    0xa781,
-    0x6740,
-    0xa501,
-    0x65c0,
-    0x6480,
-    0xa441,
-    0x6c00,
-    0xacc1,
-    0xad81,
-    0x6d40,
-    0xaf01,
-    0x6fc0,
-    0x6e80,
-    0xae41,
-    0xaa01,
-    0x6ac0,
-    0x6b80,
-    0xab41,
-    0x6900,
-    0xa9c1,
-    0xa881,
-    0x6840,
-    0x7800,
-    0xb8c1,
-    0xb981,
-    0x7940,
-    0xbb01,
-    0x7bc0,
-    0x7a80,
-    0xba41,
-    0xbe01,
-    0x7ec0,
-    0x7f80,
-    0xbf41,
-    0x7d00,
-    0xbdc1,
-    0xbc81,
-    0x7c40,
-    0xb401,
-    0x74c0,
-    0x7580,
-    0xb541,
-    0x7700,
-    0xb7c1,
-    0xb681,
-    0x7640,
-    0x7200,
-    0xb2c1,
-    0xb381,
-    0x7340,
-    0xb101,
-    0x71c0,
-    0x7080,
-    0xb041,
-    0x5000,
-    0x90c1,
-    0x9181,
-    0x5140,
-    0x9301,
-    0x53c0,
-    0x5280,
-    0x9241,
-    0x9601,
-    0x56c0,
-    0x5780,
-    0x9741,
-    0x5500,
-    0x95c1,
-    0x9481,
-    0x5440,
-    0x9c01,
-    0x5cc0,
-    0x5d80,
-    0x9d41,
-    0x5f00,
-    0x9fc1,
-    0x9e81,
-    0x5e40,
-    0x5a00,
-    0x9ac1,
-    0x9b81,
-    0x5b40,
-    0x9901,
-    0x59c0,
-    0x5880,
-    0x9841,
-    0x8801,
-    0x48c0,
-    0x4980,
-    0x8941,
-    0x4b00,
-    0x8bc1,
-    0x8a81,
-    0x4a40,
-    0x4e00,
-    0x8ec1,
-    0x8f81,
-    0x4f40,
-    0x8d01,
-    0x4dc0,
-    0x4c80,
-    0x8c41,
-    0x4400,
-    0x84c1,
-    0x8581,
-    0x4540,
-    0x8701,
-    0x47c0,
-    0x4680,
-    0x8641,
-    0x8201,
-    0x42c0,
-    0x4380,
-    0x8341,
-    0x4100,
-    0x81c1,
-    0x8081,
-    0x4040,
-];
-
-// Two characters as a word, low character first.
-fn pair(low: u8, high: u8) -> u16
-    ensures { λ r. ⌜ r ≡ low + 256 * high ⌝ }
+// By x^15 + x + 1 a bit is worth the bits 15 and 14 places up, and so those 30 and 28 places up.
+fn fold(v: u64) -> u64
+    ensures { λ r. ⌜ (Alike (bitSteps 64 r) (bitSteps 64 v)) × (r % 2 ^ 28 ≡ 0) ⌝ }
 {
-    (low as u16) + 256 * (high as u16)
+    let x = v << 30;
+    (x ^ (x >> 2)) ^ ((v >> 34) << 34)
 }
 
-// Eight bits divided at once: the high places, and the table's word for the low ones.
-fn eight(table: &[u16; 256], x: u16) -> u16
+// Eight characters more are divided: by x^15 + x + 1 that is 64 places as the sum of 8 and 4.
+fn turn(v: u64) -> u64
+    ensures { λ r. ⌜ Alike (bitSteps 64 r) (bitSteps 64 (bitSteps 64 v)) ⌝ }
+{
+    let y = fold(v);
+    (y >> 4) ^ (y >> 8)
+}
+
+// The 64 places as eight characters, which the table divides.
+fn last(table: &[u16; 256], v: u64) -> u16
     requires { ⌜ now table ≡ words ⌝ }
-    ensures { λ r. ⌜ r ≡ bitSteps 8 x ⌝ }
+    ensures { λ r. ⌜ r ≡ bitSteps 64 v ⌝ }
 {
-    let k = (x % 256) as usize;
-    (x >> 8) ^ table[k]
+    let cs = [
+        (v % 256) as u8,
+        ((v >> 8) % 256) as u8,
+        ((v >> 16) % 256) as u8,
+        ((v >> 24) % 256) as u8,
+        ((v >> 32) % 256) as u8,
+        ((v >> 40) % 256) as u8,
+        ((v >> 48) % 256) as u8,
+        (v >> 56) as u8,
+    ];
+    by_table(table, &cs)
 }
 
-// Two characters a turn, read as one word. The table is a local, laid out once for a call: `TABLE[k]` would lay it out at each look-up
-// (bench/checkword has the counts).
+// The other factor, x + 1: x^15 + x + 1 itself makes the ones odd or even as those of a.
+fn evened(r: u16, a: u64) -> u16
+    ensures { λ e. ⌜ (Alike e r) × (parity e ≡ parity a) ⌝ }
+{
+    if u64::count_ones(a ^ (r as u64)) % 2 == 1 {
+        return r ^ 0xc001;
+    }
+    r
+}
+
+// The list is folded to its last eight characters, one load a turn, before the table works them.
+fn folded(table: &[u16; 256], s: &[u8]) -> u16
+    requires { ⌜ (now table ≡ words) × (8 ≤ length (now s)) ⌝ }
+    ensures { λ r. ⌜ r ≡ checkOf (now (s .entry)) ⌝ }
+{
+    let mut i = (s.len() - 1) % 8 + 1;
+    let mut v = head(s, i);
+    let mut a = v;
+    while i < s.len() {
+        let w = eight(s, i);
+        v = turn(v) ^ w;
+        a = a ^ w;
+        i += 8;
+    }
+    evened(last(table, v), a)
+}
+
+// From here on folding costs less than the table over all characters (bench/checkword has the counts).
+const LONG: usize = 12;
+
+// The table is lent to both ways, so that it is laid out once and its rule tested once.
+fn worked(table: &[u16; 256], s: &[u8]) -> u16
+    requires { ⌜ now table ≡ words ⌝ }
+    ensures { λ r. ⌜ r ≡ checkOf (now (s .entry)) ⌝ }
+{
+    if s.len() < LONG {
+        return by_table(table, s);
+    }
+    folded(table, s)
+}
+
+// The table is a local: `TABLE[k]` would lay it out at each look-up (bench/checkword has the counts).
 #[no_mangle]
 pub extern "C" fn check_word(s: &[u8]) -> u16
     ensures { λ r. ⌜ r ≡ checkOf (now (s .entry)) ⌝ }
 {
     let table = TABLE;
-    let pairs = s.len() / 2;
-    let mut crc: u16 = 0;
-    let mut i = 0;
-    while i < pairs {
-        let x = crc ^ pair(s[2 * i], s[2 * i + 1]);
-        crc = eight(&table, eight(&table, x));
-        i += 1;
-    }
-    if s.len() % 2 == 1 {
-        return eight(&table, crc ^ pair(s[2 * pairs], 0));
-    }
-    crc
+    worked(&table, s)
 }

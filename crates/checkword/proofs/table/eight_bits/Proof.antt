@@ -1,13 +1,13 @@
--- `checkword::eight` meets its contract: the rule of the table it is lent.
+-- `checkword::table::eight_bits` meets its contract: the rule of the table it is lent.
 -- Assumes nothing.
 use mathlib.Core.Path.{ap, _∙_}
 use Prim.Native.Nat.{_/_, _%_}
 use lib.ListN.{getD}
 use lib.Bits.{bitXor}
 use borrow.Author.Needs.{needs}
-use Rattle.checkword.proofs.Table.{xor-words}
-use Rattle.checkword.proofs.eight.Statement.{statement}
-use Rattle.checkword.proofs.eight.Tie as tie
+use Rattle.checkword.proofs.Words.{xor-words}
+use Rattle.checkword.proofs.table.eight_bits.Statement.{statement}
+use Rattle.checkword.proofs.table.eight_bits.Tie as tie
 
 cast-k : tie.Need-cast-k
 cast-k c = search needs
@@ -23,5 +23,5 @@ returns c =
     let x = c .before .args .x in
     ap (λ t. bitXor (x / 256) (getD t (x % 256) 0)) (c .before .pre) ∙ xor-words x
 
-pub eight-spec : {M : Type 1} → statement M
-eight-spec = tie.close (tie.spec cast-k mul-result element-copy-out-result returns)
+pub eight-bits-spec : {M : Type 1} → statement M
+eight-bits-spec = tie.close (tie.spec cast-k mul-result element-copy-out-result returns)

@@ -1,0 +1,43 @@
+// Characters of a list as one number, low character first, as they stand on the line (document 01, "Frames", check sentence).
+ghost use mathlib.Core.Path.{_≡_};
+ghost use Prim.Native.Nat.{_+_, _-_, _*_, _^_, _≤_, _<_};
+ghost use lib.ListN.{length};
+ghost use Rattle.chars.specs.Put.{part};
+ghost use Rattle.checkword.specs.Line.{line};
+
+// Two characters as a word.
+pub fn pair(low: u8, high: u8) -> u16
+    ensures { λ r. ⌜ r ≡ low + 256 * high ⌝ }
+{
+    (low as u16) + 256 * (high as u16)
+}
+
+// The characters from i on: two, four and eight of them, of which the compiler makes one load.
+pub fn two(s: &[u8], i: usize) -> u16
+    requires { ⌜ i + 2 ≤ length (now s) ⌝ }
+    ensures { λ r. ⌜ r ≡ line (part (now (s .entry)) i 2) ⌝ }
+{
+    pair(s[i], s[i + 1])
+}
+
+fn four(s: &[u8], i: usize) -> u32
+    requires { ⌜ i + 4 ≤ length (now s) ⌝ }
+    ensures { λ r. ⌜ r ≡ line (part (now (s .entry)) i 4) ⌝ }
+{
+    (two(s, i) as u32) + 65536 * (two(s, i + 2) as u32)
+}
+
+pub fn eight(s: &[u8], i: usize) -> u64
+    requires { ⌜ i + 8 ≤ length (now s) ⌝ }
+    ensures { λ r. ⌜ r ≡ line (part (now (s .entry)) i 8) ⌝ }
+{
+    (four(s, i) as u64) + 4294967296 * (four(s, i + 4) as u64)
+}
+
+// The first n characters, in the high places: those after them fall out.
+pub fn head(s: &[u8], n: usize) -> u64
+    requires { ⌜ (0 < n) × (n ≤ 8) × (8 ≤ length (now s)) ⌝ }
+    ensures { λ r. ⌜ r ≡ line (part (now (s .entry)) 0 n) * 2 ^ (64 - 8 * n) ⌝ }
+{
+    eight(s, 0) << (64 - 8 * n)
+}
