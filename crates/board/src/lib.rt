@@ -12,8 +12,12 @@ use model::Input;
 use model::Outcome;
 use model::Reply;
 use model::SpecialCalculation;
-use numbers::numbers;
-use numbers::opening;
+use numbers::core_in;
+use numbers::keep;
+use numbers::keep_error;
+use numbers::memory_in;
+use numbers::port_in;
+use numbers::stands;
 ghost use mathlib.Core.Path.{_≡_};
 ghost use mathlib.Core.List.{List};
 ghost use Prim.Native.Nat.{ℕ};
@@ -42,7 +46,10 @@ pub extern "C" fn osturdam_fresh(
 )
     ensures { λ _. ⌜ Freshly (length (now (block .entry))) (now (kept .exit)) (now (words .exit)) (now (results .exit)) (now (fixed .exit)) (now (block .exit)) (now (counts .exit)) ⌝ }
 {
-    *kept = numbers(unit::fresh_core(), unit::fresh_memory(), unit::fresh_port());
+    // Day 1 of the clock and the configure bit: every other number of a fresh unit is 0.
+    *kept = [0; 26];
+    kept[0] = 1;
+    kept[15] = 1;
     unit::clear(words, results, fixed, block, counts);
 }
 
@@ -72,11 +79,10 @@ pub extern "C" fn osturdam_stretch<'a>(
         (ownedOf (now (kept .exit)) (now (words .exit)) (now (results .entry)) (now (fixed .exit)) (now (block .exit)) (now (area .exit)) (now (counts .exit)))
         (now (buffer .entry)) (now (buffer .exit)) r ⌝ }
 {
-    let found = opening(kept);
-    if found.readable {
-        let core = found.core;
-        let memory = found.memory;
-        let port = found.port;
+    if stands(kept) {
+        let core = core_in(kept);
+        let memory = memory_in(kept);
+        let port = port_in(kept);
         let turn = unit::stretch(
             unit,
             length,
@@ -100,7 +106,7 @@ pub extern "C" fn osturdam_stretch<'a>(
         let next = turn.core;
         let remembered = turn.memory;
         let line = turn.port;
-        *kept = numbers(next, remembered, line);
+        keep(kept, next, remembered, line);
         let outcome = turn.outcome;
         let action = turn.action;
         return shown(turn.sent, outcome, action);
@@ -132,11 +138,10 @@ pub extern "C" fn osturdam_elapsed<'a>(
         (ownedOf (now (kept .exit)) words results fixed (now (block .entry)) area (now (counts .entry)))
         r) ⌝ }
 {
-    let found = opening(kept);
-    if found.readable {
-        let core = found.core;
-        let memory = found.memory;
-        let port = found.port;
+    if stands(kept) {
+        let core = core_in(kept);
+        let memory = memory_in(kept);
+        let port = port_in(kept);
         let passed = events::elapsed(
             unit,
             length,
@@ -154,7 +159,7 @@ pub extern "C" fn osturdam_elapsed<'a>(
         );
         let next = passed.core;
         let line = passed.port;
-        *kept = numbers(next, memory, line);
+        keep(kept, next, memory, line);
         let outcome = passed.outcome;
         return number(outcome);
     }
@@ -184,11 +189,10 @@ pub extern "C" fn osturdam_set_word<'a>(
         (ownedOf (now (kept .entry)) (now (words .exit)) results fixed (now (block .entry)) area (now (counts .entry)))
         r) ⌝ }
 {
-    let found = opening(kept);
-    if found.readable {
-        let core = found.core;
-        let memory = found.memory;
-        let port = found.port;
+    if stands(kept) {
+        let core = core_in(kept);
+        let memory = memory_in(kept);
+        let port = port_in(kept);
         let outcome = events::set_word(
             unit,
             length,
@@ -234,11 +238,10 @@ pub extern "C" fn osturdam_pulses<'a>(
         (ownedOf (now (kept .entry)) (now (words .exit)) results fixed (now (block .entry)) area (now (counts .entry)))
         r) ⌝ }
 {
-    let found = opening(kept);
-    if found.readable {
-        let core = found.core;
-        let memory = found.memory;
-        let port = found.port;
+    if stands(kept) {
+        let core = core_in(kept);
+        let memory = memory_in(kept);
+        let port = port_in(kept);
         let outcome = events::pulses(
             unit,
             length,
@@ -284,11 +287,10 @@ pub extern "C" fn osturdam_set_value<'a>(
         (ownedOf (now (kept .entry)) words (now (results .exit)) fixed (now (block .entry)) area (now (counts .entry)))
         r) ⌝ }
 {
-    let found = opening(kept);
-    if found.readable {
-        let core = found.core;
-        let memory = found.memory;
-        let port = found.port;
+    if stands(kept) {
+        let core = core_in(kept);
+        let memory = memory_in(kept);
+        let port = port_in(kept);
         let outcome = events::set_value(
             unit,
             length,
@@ -335,11 +337,10 @@ pub extern "C" fn osturdam_store_record<'a>(
         (ownedOf (now (kept .exit)) words results fixed (now (block .entry)) (now (area .exit)) (now (counts .exit)))
         r) ⌝ }
 {
-    let found = opening(kept);
-    if found.readable {
-        let core = found.core;
-        let memory = found.memory;
-        let port = found.port;
+    if stands(kept) {
+        let core = core_in(kept);
+        let memory = memory_in(kept);
+        let port = port_in(kept);
         let storage = events::store_record(
             unit,
             length,
@@ -359,7 +360,7 @@ pub extern "C" fn osturdam_store_record<'a>(
             given,
         );
         let next = storage.core;
-        *kept = numbers(next, memory, port);
+        keep_error(kept, next.error);
         let answer = storage.answer;
         return answer_number(answer);
     }

@@ -1,12 +1,11 @@
 -- Numbers written are read as what was written, and numbers that stand are those written for what they mean. Assumes nothing.
 use mathlib.Core.Path.{_≡_, refl, sym, ap, _∙_}
-use Prim.Native.Nat.{ℕ, suc, _+_, _%_, _<_, _≤_}
+use Prim.Native.Nat.{ℕ, zero, suc, _+_, _%_, _<_, _≤_}
 use native.Mathlib.Omega.{arith}
 use native.Mathlib.Nat.{mod-eq-of-lt}
 use mathlib.Core.List.{List, [], _∷_}
 use mathlib.Core.Bool.{Bool, true, false, cond, _&&_}
-use lib.ListN.{length, getD}
-use lib.Seq.{ext-getD}
+use lib.ListN.{length, getD, drop, set}
 use lib.Dec.{eqb}
 use borrow.Author.Tests.{eqb-true, eq-eqb}
 use Rattle.model.specs.declared.Master.{Master}
@@ -20,12 +19,14 @@ use Rattle.model.specs.declared.HistoryReply.{HistoryReply}
 use Rattle.model.specs.declared.Core.{Core}
 use Rattle.model.specs.declared.Memory.{Memory}
 use Rattle.model.specs.declared.Memory.the-variants.{Remembered}
+use Rattle.model.specs.declared.Mark.{Mark}
+use Rattle.model.specs.declared.Mark.the-variants.{Fine, Silent, Damaged}
 use Rattle.model.specs.declared.Port.{Port}
-use Rattle.model.proofs.Conditions.{by-bool, by-eqb, false-true, and-left, and-right, and-both}
+use Rattle.model.specs.Step.{withError}
+use Rattle.model.proofs.Conditions.{false-true, and-left, and-right, and-both}
 use Rattle.numbers.specs.declared.HoldNumbers.{HoldNumbers}
 use Rattle.numbers.specs.declared.WriteNumbers.{WriteNumbers}
 use Rattle.numbers.specs.declared.MemoryNumbers.{MemoryNumbers}
-use Rattle.numbers.specs.declared.Opened.{Opened}
 use Rattle.numbers.specs.Numbers.{
   bitOf,
   holdNumbers,
@@ -33,6 +34,12 @@ use Rattle.numbers.specs.Numbers.{
   memoryNumbers,
   markNumber,
   numbersOf,
+  putClock,
+  putHold,
+  putWrite,
+  putBits,
+  putMemory,
+  putPort,
   holdIn,
   writeIn,
   replyIn,
@@ -45,7 +52,6 @@ use Rattle.numbers.specs.Numbers.{
   readable,
   Means,
   Written,
-  openedOf,
 }
 
 -- ---- two lists
@@ -62,36 +68,6 @@ same-equal [] (y ∷ ys) e = false-true e
 same-equal (x ∷ xs) [] e = false-true e
 same-equal (x ∷ xs) (y ∷ ys) e =
     λ i. eqb-true x y (and-left (eqb x y) (same xs ys) e) i ∷ same-equal xs ys (and-right (eqb x y) (same xs ys) e) i
-
--- a loop's flag, after i places
-pub record Agrees (xs ys : List ℕ) (i : ℕ) (flag : Bool) : Type 0 where
-  pub so : flag ≡ true → (k : ℕ) → k < i → getD xs k 0 ≡ getD ys k 0
-  pub not : flag ≡ false → xs ≡ ys → ⊥
-
-module _ (xs ys : List ℕ) where
-  pub agrees-start : Agrees xs ys 0 true
-  agrees-start = record { so = λ e k l. absurd (omega arith); not = λ e q. false-true (sym e) }
-
-  module _ (i : ℕ) {next : Bool} where
-    pub agrees-passed : {flag : Bool} → Agrees xs ys i flag → next ≡ flag → getD xs i 0 ≡ getD ys i 0 → Agrees xs ys (i + 1) next
-    agrees-passed a n p =
-        record {
-          so = λ e k l. by-eqb k i (λ q. rw q p) (λ q. let m : k < i = omega arith in a .so (sym n ∙ e) k m);
-          not = λ e q. a .not (sym n ∙ e) q;
-        }
-
-    pub agrees-failed : next ≡ false → (getD xs i 0 ≡ getD ys i 0 → ⊥) → Agrees xs ys (i + 1) next
-    agrees-failed n p =
-        record {
-          so = λ e k l. false-true (sym n ∙ e);
-          not = λ e q. p (ap (λ (zs : List ℕ). getD zs i 0) q);
-        }
-
-  pub agrees-end : (i : ℕ) {flag : Bool} → Agrees xs ys i flag → length xs ≡ i → length ys ≡ i → flag ≡ same xs ys
-  agrees-end i {flag} a p q =
-      by-bool flag
-      (λ e. let z : xs ≡ ys = ext-getD 0 xs ys (p ∙ sym q) (λ k l. let m : k < i = omega arith in a .so e k m) in e ∙ sym (rw z (same-refl ys)))
-      (λ e. by-bool (same xs ys) (λ s. absurd (a .not e (same-equal xs ys s))) (λ s. e ∙ sym s))
 
 -- ---- written and read back
 
@@ -125,9 +101,11 @@ pub timed-out-back : {t : Master} {h : Hold} {m : ℕ} → h ≡ TimedOut t → 
 unfolding holdNumbers holdIn
 timed-out-back e m = rw e (λ i. record { hold = 2; master = m .0 i; output = 0; close = 0; age = 0 }, λ i. TimedOut (record { 0 = back m i }))
 
+abbrev pub WriteBack : Pending → WriteNumbers → Type 0
+WriteBack p n = (n ≡ writeNumbers p) × (writeIn n ≡ p)
+
 pub waits-back : {w : Write} {p : Pending} {m o : ℕ} → p ≡ Waits w → Byte (w .master .0) m → Byte (w .ordinal .0) o
-    → (_≡_ {A = WriteNumbers} (record { write = 1; master = m; bias = w .bias; ordinal = o; age = w .age }) (writeNumbers p))
-    × (writeIn (record { write = 1; master = m; bias = w .bias; ordinal = o; age = w .age }) ≡ p)
+    → WriteBack p (record { write = 1; master = m; bias = w .bias; ordinal = o; age = w .age })
 unfolding writeNumbers writeIn
 waits-back {w} e m o =
     rw e (
@@ -148,39 +126,95 @@ remembered-back e m f d q b =
       λ i. Remembered (record { master = record { 0 = back m i }; file = record { 0 = back f i }; dump = d .1 i; quantity = back q i; more = b .1 i }),
     )
 
+-- the numbers of a part, put in their places
+module _ (ks : List ℕ) where
+  pub hold-put : {h : Hold} {n : HoldNumbers} → HoldBack h n → (putHold n ks ≡ putHold (holdNumbers h) ks) × (holdIn (holdNumbers h) ≡ h)
+  hold-put b = (λ i. putHold (b .0 i) ks, rw (b .0) at (b .1))
+
+  pub write-put : {p : Pending} {n : WriteNumbers} → WriteBack p n → (putWrite n ks ≡ putWrite (writeNumbers p) ks) × (writeIn (writeNumbers p) ≡ p)
+  write-put b = (λ i. putWrite (b .0 i) ks, rw (b .0) at (b .1))
+
+  pub memory-put : {m : Memory} {n : MemoryNumbers} → MemoryBack m n → (putMemory n ks ≡ putMemory (memoryNumbers m) ks) × (replyIn (memoryNumbers m) ≡ m)
+  memory-put b = (λ i. putMemory (b .0 i) ks, rw (b .0) at (b .1))
+
+-- a list of n numbers, number by number
+unfoldable pub firsts : ℕ → List ℕ → List ℕ
+firsts zero ks = []
+firsts (suc n) ks = getD ks 0 0 ∷ firsts n (drop 1 ks)
+
+pub all-firsts : (n : ℕ) (ks : List ℕ) → length ks ≡ n → ks ≡ firsts n ks
+unfolding firsts
+all-firsts zero [] e = refl
+all-firsts zero (x ∷ xs) e = absurd (omega arith)
+all-firsts (suc n) [] e = absurd (omega arith)
+all-firsts (suc n) (x ∷ xs) e = let l : length xs ≡ n = omega arith in λ i. x ∷ all-firsts n xs l i
+
+bit-back : (b : Bool) → eqb (bitOf b) 1 ≡ b
+unfolding bitOf
+bit-back true = refl
+bit-back false = refl
+
+mark-back : (m : Mark) → markIn (markNumber m) ≡ m
+unfolding markIn markNumber
+mark-back Fine = refl
+mark-back Silent = refl
+mark-back Damaged = refl
+
 -- the parts together
-pub written : {k : Core} {w : Memory} {p : Port} {hour minute second configure error broadcast mark : ℕ}
-    {h : HoldNumbers} {n : WriteNumbers} {m : MemoryNumbers}
-    → (h ≡ holdNumbers (k .hold)) × (holdIn h ≡ k .hold) → (n ≡ writeNumbers (k .write)) × (writeIn n ≡ k .write) → (m ≡ memoryNumbers w) × (replyIn m ≡ w)
-    → Byte (k .clock .hour) hour → Byte (k .clock .minute) minute → Byte (k .clock .second) second
-    → Bit (k .configure) configure → Bit (k .error) error → Bit (k .broadcast) broadcast → (mark ≡ markNumber (p .mark)) × (markIn mark ≡ p .mark)
-    → Written k w p
-    (k .clock .day ∷ hour ∷ minute ∷ second ∷ k .clock .ms ∷ h .hold ∷ h .master ∷ h .output ∷ h .close ∷ h .age ∷ n .write ∷ n .master ∷ n .bias
-    ∷ n .ordinal ∷ n .age ∷ configure ∷ error ∷ broadcast ∷ m .memory ∷ m .master ∷ m .file ∷ m .dump ∷ m .quantity ∷ m .more ∷ p .silence ∷ mark ∷ [])
-unfolding numbersOf clockIn coreIn memoryIn portIn
-written {k} {w} {p} h n m hour minute second configure error broadcast mark =
-    record {
-      plain = λ i.
-          k .clock .day ∷ hour .0 i ∷ minute .0 i ∷ second .0 i ∷ k .clock .ms
-          ∷ h .0 i .hold ∷ h .0 i .master ∷ h .0 i .output ∷ h .0 i .close ∷ h .0 i .age
-          ∷ n .0 i .write ∷ n .0 i .master ∷ n .0 i .bias ∷ n .0 i .ordinal ∷ n .0 i .age
-          ∷ configure .0 i ∷ error .0 i ∷ broadcast .0 i
-          ∷ m .0 i .memory ∷ m .0 i .master ∷ m .0 i .file ∷ m .0 i .dump ∷ m .0 i .quantity ∷ m .0 i .more
-          ∷ p .silence ∷ mark .0 i ∷ [];
+pub written : {k : Core} {w : Memory} {p : Port} (ks : List ℕ) → length ks ≡ 26
+    → (k .clock .hour < 256) × (k .clock .minute < 256) × (k .clock .second < 256)
+    → holdIn (holdNumbers (k .hold)) ≡ k .hold → writeIn (writeNumbers (k .write)) ≡ k .write → replyIn (memoryNumbers w) ≡ w
+    → Written k w p (putPort p (putMemory (memoryNumbers w) (putBits (k .configure) (k .error) (k .broadcast)
+    (putWrite (writeNumbers (k .write)) (putHold (holdNumbers (k .hold)) (putClock (k .clock) ks))))))
+unfolding firsts numbersOf clockIn coreIn memoryIn portIn
+written {k} {w} {p} ks l t h n m =
+    rw (all-firsts 26 ks l)
+    (record {
+      plain = refl;
       means = record {
         core = λ i.
             record {
-              clock = record { day = k .clock .day; hour = back hour i; minute = back minute i; second = back second i; ms = k .clock .ms };
-              hold = h .1 i;
-              write = n .1 i;
-              configure = configure .1 i;
-              error = error .1 i;
-              broadcast = broadcast .1 i;
+              clock = record {
+                day = k .clock .day;
+                hour = mod-eq-of-lt (t .0) i;
+                minute = mod-eq-of-lt (t .1) i;
+                second = mod-eq-of-lt (t .2) i;
+                ms = k .clock .ms;
+              };
+              hold = h i;
+              write = n i;
+              configure = bit-back (k .configure) i;
+              error = bit-back (k .error) i;
+              broadcast = bit-back (k .broadcast) i;
             };
-        memory = m .1;
-        port = λ i. record { silence = p .silence; mark = mark .1 i };
+        memory = m;
+        port = λ i. record { silence = p .silence; mark = mark-back (p .mark) i };
       };
-    }
+    })
+
+-- and one place changed: the error
+pub error-written : {k : Core} {w : Memory} {p : Port} {ks : List ℕ} (e : Bool) → Written k w p ks
+    → Written (withError k e) w p (set ks 16 (bitOf e))
+unfolding numbersOf clockIn coreIn memoryIn portIn
+error-written {k} {w} {p} e a =
+    let s = rw (a .plain) at (a .means) in
+    rw (a .plain)
+    (record {
+      plain = refl;
+      means = record {
+        core = λ i.
+            record {
+              clock = s .core i .clock;
+              hold = s .core i .hold;
+              write = s .core i .write;
+              configure = s .core i .configure;
+              error = bit-back e i;
+              broadcast = s .core i .broadcast;
+            };
+        memory = s .memory;
+        port = s .port;
+      };
+    })
 
 -- what was written, is readable
 pub written-readable : {core : Core} {memory : Memory} {port : Port} {ks : List ℕ} → Written core memory port ks → readable ks ≡ true
@@ -199,12 +233,3 @@ pub readable-one : (ks ls : List ℕ) → readable ks ≡ true → readable ls �
     → coreIn ks ≡ coreIn ls → memoryIn ks ≡ memoryIn ls → portIn ks ≡ portIn ls → ks ≡ ls
 readable-one ks ls e f c m p =
     readable-written ks e .plain ∙ rw (c, m, p) (sym (readable-written ls f .plain))
-
--- what is opened: the numbers written for what they mean are compared with them
-pub opened : (ks : List ℕ) {ns : List ℕ} {k : Core} {w : Memory} {p : Port} {flag : Bool}
-    → k ≡ coreIn ks → w ≡ memoryIn ks → p ≡ portIn ks → Written k w p ns → flag ≡ same ns ks
-    → _≡_ {A = Opened} (record { core = k; memory = w; port = p; readable = flag }) (openedOf ks)
-unfolding openedOf readable
-opened ks {ns} a b c n e =
-    let z : ns ≡ numbersOf (coreIn ks) (memoryIn ks) (portIn ks) = n .plain ∙ rw (a, b, c) in
-    λ i. record { core = a i; memory = b i; port = c i; readable = (e ∙ ap (λ (ms : List ℕ). same ms ks) z) i }

@@ -3,7 +3,7 @@ use mathlib.Core.Path.{_≡_}
 use Prim.Native.Nat.{ℕ, _%_}
 use mathlib.Core.List.{List, [], _∷_}
 use mathlib.Core.Bool.{Bool, true, false, cond, _&&_}
-use lib.ListN.{getD}
+use lib.ListN.{getD, set}
 use lib.Dec.{eqb}
 use Rattle.model.specs.declared.Hold.{Hold}
 use Rattle.model.specs.declared.Hold.the-variants.{Free, Held, TimedOut}
@@ -19,7 +19,6 @@ use Rattle.model.specs.declared.Port.{Port}
 use Rattle.numbers.specs.declared.HoldNumbers.{HoldNumbers}
 use Rattle.numbers.specs.declared.WriteNumbers.{WriteNumbers}
 use Rattle.numbers.specs.declared.MemoryNumbers.{MemoryNumbers}
-use Rattle.numbers.specs.declared.Opened.{Opened}
 
 -- ---- written: a tag first, and 0 in each place that its case does not use
 
@@ -55,6 +54,35 @@ numbersOf k m p =
     ∷ memoryNumbers m .memory ∷ memoryNumbers m .master ∷ memoryNumbers m .file ∷ memoryNumbers m .dump ∷ memoryNumbers m .quantity ∷ memoryNumbers m .more
     ∷ p .silence ∷ markNumber (p .mark) ∷ []
 
+-- ---- in their places
+
+abbrev pub holdPlaces : HoldNumbers → List ℕ
+holdPlaces n = n .hold ∷ n .master ∷ n .output ∷ n .close ∷ n .age ∷ []
+
+abbrev pub writePlaces : WriteNumbers → List ℕ
+writePlaces n = n .write ∷ n .master ∷ n .bias ∷ n .ordinal ∷ n .age ∷ []
+
+abbrev pub memoryPlaces : MemoryNumbers → List ℕ
+memoryPlaces n = n .memory ∷ n .master ∷ n .file ∷ n .dump ∷ n .quantity ∷ n .more ∷ []
+
+abbrev pub putClock : Clock → List ℕ → List ℕ
+putClock t ks = set (set (set (set (set ks 0 (t .day)) 1 (t .hour)) 2 (t .minute)) 3 (t .second)) 4 (t .ms)
+
+abbrev pub putHold : HoldNumbers → List ℕ → List ℕ
+putHold n ks = set (set (set (set (set ks 5 (n .hold)) 6 (n .master)) 7 (n .output)) 8 (n .close)) 9 (n .age)
+
+abbrev pub putWrite : WriteNumbers → List ℕ → List ℕ
+putWrite n ks = set (set (set (set (set ks 10 (n .write)) 11 (n .master)) 12 (n .bias)) 13 (n .ordinal)) 14 (n .age)
+
+abbrev pub putBits : Bool → Bool → Bool → List ℕ → List ℕ
+putBits configure error broadcast ks = set (set (set ks 15 (bitOf configure)) 16 (bitOf error)) 17 (bitOf broadcast)
+
+abbrev pub putMemory : MemoryNumbers → List ℕ → List ℕ
+putMemory n ks = set (set (set (set (set (set ks 18 (n .memory)) 19 (n .master)) 20 (n .file)) 21 (n .dump)) 22 (n .quantity)) 23 (n .more)
+
+abbrev pub putPort : Port → List ℕ → List ℕ
+putPort p ks = set (set ks 24 (p .silence)) 25 (markNumber (p .mark))
+
 -- ---- read: any numbers mean something
 
 unfoldable pub holdIn : HoldNumbers → Hold
@@ -86,27 +114,29 @@ markIn n = cond (eqb n 0) Fine (cond (eqb n 1) Silent Damaged)
 unfoldable pub clockIn : List ℕ → Clock
 clockIn ks = record { day = getD ks 0 0; hour = getD ks 1 0 % 256; minute = getD ks 2 0 % 256; second = getD ks 3 0 % 256; ms = getD ks 4 0 }
 
+abbrev pub holdAt : List ℕ → HoldNumbers
+holdAt ks = record { hold = getD ks 5 0; master = getD ks 6 0; output = getD ks 7 0; close = getD ks 8 0; age = getD ks 9 0 }
+
+abbrev pub writeAt : List ℕ → WriteNumbers
+writeAt ks = record { write = getD ks 10 0; master = getD ks 11 0; bias = getD ks 12 0; ordinal = getD ks 13 0; age = getD ks 14 0 }
+
+abbrev pub memoryAt : List ℕ → MemoryNumbers
+memoryAt ks =
+    record { memory = getD ks 18 0; master = getD ks 19 0; file = getD ks 20 0; dump = getD ks 21 0; quantity = getD ks 22 0; more = getD ks 23 0 }
+
 unfoldable pub coreIn : List ℕ → Core
 coreIn ks =
     record {
       clock = clockIn ks;
-      hold = holdIn (record { hold = getD ks 5 0; master = getD ks 6 0; output = getD ks 7 0; close = getD ks 8 0; age = getD ks 9 0 });
-      write = writeIn (record { write = getD ks 10 0; master = getD ks 11 0; bias = getD ks 12 0; ordinal = getD ks 13 0; age = getD ks 14 0 });
+      hold = holdIn (holdAt ks);
+      write = writeIn (writeAt ks);
       configure = eqb (getD ks 15 0) 1;
       error = eqb (getD ks 16 0) 1;
       broadcast = eqb (getD ks 17 0) 1;
     }
 
 unfoldable pub memoryIn : List ℕ → Memory
-memoryIn ks =
-    replyIn (record {
-      memory = getD ks 18 0;
-      master = getD ks 19 0;
-      file = getD ks 20 0;
-      dump = getD ks 21 0;
-      quantity = getD ks 22 0;
-      more = getD ks 23 0;
-    })
+memoryIn ks = replyIn (memoryAt ks)
 
 unfoldable pub portIn : List ℕ → Port
 portIn ks = record { silence = getD ks 24 0; mark = markIn (getD ks 25 0) }
@@ -122,9 +152,6 @@ same (x ∷ xs) (y ∷ ys) = eqb x y && same xs ys
 -- numbers that a unit writes for what they mean
 unfoldable pub readable : List ℕ → Bool
 readable ks = same (numbersOf (coreIn ks) (memoryIn ks) (portIn ks)) ks
-
-unfoldable pub openedOf : List ℕ → Opened
-openedOf ks = record { core = coreIn ks; memory = memoryIn ks; port = portIn ks; readable = readable ks }
 
 -- numbers that mean this core, memory and port
 pub record Means (ks : List ℕ) (k : Core) (m : Memory) (p : Port) : Type 0 where

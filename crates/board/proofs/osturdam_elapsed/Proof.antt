@@ -4,36 +4,48 @@ use borrow.Author.Needs.{needs}
 use Rattle.board.proofs.osturdam_elapsed.Statement.{statement}
 use Rattle.board.proofs.osturdam_elapsed.Tie as tie
 
-opening-requires : tie.Need-opening-requires
-opening-requires c κs = search needs
+stands-requires : tie.Need-stands-requires
+stands-requires c κs = search needs
+
+core-in-requires : tie.Need-core-in-requires
+core-in-requires c κs = search needs
+
+memory-in-requires : tie.Need-memory-in-requires
+memory-in-requires c κs = search needs
+
+port-in-requires : tie.Need-port-in-requires
+port-in-requires c κs = search needs
 
 elapsed-requires : tie.Need-elapsed-requires
 elapsed-requires c κs = search needs
 
-numbers-requires : tie.Need-numbers-requires
-numbers-requires c κs = search needs
+keep-requires : tie.Need-keep-requires
+keep-requires c κs = search needs
 
 number-requires : tie.Need-number-requires
 number-requires c κs = search needs
 
 returns : tie.Need-returns
 returns c = λ words results fixed area.
-    tells-read _ _ _ (c .before .before .before .before .before .before .before .before .opening .ensures) _ (c .before .before .before .before .before .before .before .if1 .taken)
-    (c .before .before .before .before .elapsed .ensures words results fixed area) (c .before .numbers .ensures) (c .number .ensures)
+    tells-read _ _ _ (c .before .before .before .before .before .before .before .before .before .before .before .before .before .stands .ensures) (c .before .before .before .before .before .before .before .before .before .before .core-in .ensures) (c .before .before .before .before .before .before .before .before .memory-in .ensures) (c .before .before .before .before .before .before .port-in .ensures) (c .before .before .before .before .before .before .before .before .before .before .before .before .if1 .taken) _
+    (c .before .before .before .before .before .elapsed .ensures words results fixed area) (c .before .keep .ensures) (c .number .ensures)
 
 unread-requires : tie.Need-unread-requires
 unread-requires c κs = search needs
 
 returns-2 : tie.Need-returns-2
-returns-2 c = λ words results fixed area. tells-away _ _ (c .before .before .opening .ensures) (c .before .if1 .left) _ (c .unread .ensures)
+returns-2 c = λ words results fixed area. tells-away _ _ (c .before .before .stands .ensures) (c .before .if1 .left) _ (c .unread .ensures)
 
 pub osturdam-elapsed-spec : {M : Type 1} → statement M
 osturdam-elapsed-spec =
     tie.close
     (tie.spec
-    opening-requires
+    stands-requires
+    core-in-requires
+    memory-in-requires
+    port-in-requires
     elapsed-requires
-    numbers-requires
+    keep-requires
     number-requires
     returns
     unread-requires

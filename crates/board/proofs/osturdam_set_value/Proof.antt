@@ -5,8 +5,17 @@ use borrow.Author.Needs.{needs}
 use Rattle.board.proofs.osturdam_set_value.Statement.{statement}
 use Rattle.board.proofs.osturdam_set_value.Tie as tie
 
-opening-requires : tie.Need-opening-requires
-opening-requires c κs = search needs
+stands-requires : tie.Need-stands-requires
+stands-requires c κs = search needs
+
+core-in-requires : tie.Need-core-in-requires
+core-in-requires c κs = search needs
+
+memory-in-requires : tie.Need-memory-in-requires
+memory-in-requires c κs = search needs
+
+port-in-requires : tie.Need-port-in-requires
+port-in-requires c κs = search needs
 
 set-value-requires : tie.Need-set-value-requires
 set-value-requires c κs = search needs
@@ -16,20 +25,23 @@ number-requires c κs = search needs
 
 returns : tie.Need-returns
 returns c = λ words fixed area.
-    tells-same _ _ _ (c .before .before .before .before .before .before .opening .ensures) _ (c .before .before .before .before .before .if1 .taken) refl
+    tells-same _ _ _ (c .before .before .before .before .before .before .before .stands .ensures) (c .before .before .before .before .before .core-in .ensures) (c .before .before .before .before .memory-in .ensures) (c .before .before .before .port-in .ensures) (c .before .before .before .before .before .before .if1 .taken) _ refl
     (c .before .set-value .ensures words fixed area) (c .number .ensures)
 
 unread-requires : tie.Need-unread-requires
 unread-requires c κs = search needs
 
 returns-2 : tie.Need-returns-2
-returns-2 c = λ words fixed area. tells-away _ _ (c .before .before .opening .ensures) (c .before .if1 .left) _ (c .unread .ensures)
+returns-2 c = λ words fixed area. tells-away _ _ (c .before .before .stands .ensures) (c .before .if1 .left) _ (c .unread .ensures)
 
 pub osturdam-set-value-spec : {M : Type 1} → statement M
 osturdam-set-value-spec =
     tie.close
     (tie.spec
-    opening-requires
+    stands-requires
+    core-in-requires
+    memory-in-requires
+    port-in-requires
     set-value-requires
     number-requires
     returns
