@@ -44,9 +44,10 @@ use Rattle.numbers.specs.Numbers.{
   memoryIn,
   portIn,
   readable,
+  Passed,
   Written,
 }
-use Rattle.numbers.proofs.NumbersLaws.{written-readable, readable-written, error-written}
+use Rattle.numbers.proofs.NumbersLaws.{written-readable, readable-written, passed-written, error-written}
 use Rattle.events.specs.Kept.{Kept, keptOf, stateOf}
 use Rattle.events.specs.Heed.{Heeds}
 use Rattle.unit.specs.Turn.{Turns}
@@ -127,6 +128,11 @@ module _ (c : Config) (x y : Owned) {f : Bool} (o : f ≡ readable (x .numbers))
   pub tells-same : (e : Event) {a : Answer} {r : ℕ} → y .numbers ≡ x .numbers → Heeds c e (over x k m p) (over y k m p) a → r ≡ answerNumber a
       → Tells c e x y r
   tells-same e same h z = tells-read e h (rw same stood) z
+
+  -- time writes core and port
+  pub tells-passed : (e : Event) {l : Core} {q : Port} {a : Answer} {r : ℕ} → Heeds c e (over x k m p) (over y l m q) a
+      → Passed l q (x .numbers) (y .numbers) → r ≡ answerNumber a → Tells c e x y r
+  tells-passed e h w z = tells-read e h (passed-written stood w) z
 
   -- a store writes the error alone
   pub tells-stored : (file : File) (e : ℕ) (vs : List ℕ) {l : Core} {a : Answer} {r : ℕ} → y .numbers ≡ set (x .numbers) 16 (bitOf (l .error))

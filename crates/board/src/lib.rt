@@ -15,6 +15,7 @@ use model::SpecialCalculation;
 use numbers::core_in;
 use numbers::keep;
 use numbers::keep_error;
+use numbers::keep_passed;
 use numbers::memory_in;
 use numbers::port_in;
 use numbers::stands;
@@ -159,7 +160,7 @@ pub extern "C" fn osturdam_elapsed<'a>(
         );
         let next = passed.core;
         let line = passed.port;
-        keep(kept, next, memory, line);
+        keep_passed(kept, next, line);
         let outcome = passed.outcome;
         return number(outcome);
     }

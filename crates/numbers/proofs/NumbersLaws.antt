@@ -40,6 +40,7 @@ use Rattle.numbers.specs.Numbers.{
   putBits,
   putMemory,
   putPort,
+  putPassed,
   holdIn,
   writeIn,
   replyIn,
@@ -51,6 +52,7 @@ use Rattle.numbers.specs.Numbers.{
   same,
   readable,
   Means,
+  Passed,
   Written,
 }
 
@@ -160,37 +162,49 @@ mark-back Fine = refl
 mark-back Silent = refl
 mark-back Damaged = refl
 
--- the parts together
-pub written : {k : Core} {w : Memory} {p : Port} (ks : List ℕ) → length ks ≡ 26
+-- core and port together
+pub passed : {k : Core} {p : Port} (ks : List ℕ) → length ks ≡ 26
     → (k .clock .hour < 256) × (k .clock .minute < 256) × (k .clock .second < 256)
-    → holdIn (holdNumbers (k .hold)) ≡ k .hold → writeIn (writeNumbers (k .write)) ≡ k .write → replyIn (memoryNumbers w) ≡ w
-    → Written k w p (putPort p (putMemory (memoryNumbers w) (putBits (k .configure) (k .error) (k .broadcast)
-    (putWrite (writeNumbers (k .write)) (putHold (holdNumbers (k .hold)) (putClock (k .clock) ks))))))
-unfolding firsts numbersOf clockIn coreIn memoryIn portIn
-written {k} {w} {p} ks l t h n m =
+    → holdIn (holdNumbers (k .hold)) ≡ k .hold → writeIn (writeNumbers (k .write)) ≡ k .write → Passed k p ks (putPassed k p ks)
+unfolding firsts clockIn coreIn portIn
+passed {k} {p} ks l t h n =
     rw (all-firsts 26 ks l)
     (record {
       plain = refl;
-      means = record {
-        core = λ i.
-            record {
-              clock = record {
-                day = k .clock .day;
-                hour = mod-eq-of-lt (t .0) i;
-                minute = mod-eq-of-lt (t .1) i;
-                second = mod-eq-of-lt (t .2) i;
-                ms = k .clock .ms;
-              };
-              hold = h i;
-              write = n i;
-              configure = bit-back (k .configure) i;
-              error = bit-back (k .error) i;
-              broadcast = bit-back (k .broadcast) i;
+      core = λ i.
+          record {
+            clock = record {
+              day = k .clock .day;
+              hour = mod-eq-of-lt (t .0) i;
+              minute = mod-eq-of-lt (t .1) i;
+              second = mod-eq-of-lt (t .2) i;
+              ms = k .clock .ms;
             };
-        memory = m;
-        port = λ i. record { silence = p .silence; mark = mark-back (p .mark) i };
-      };
+            hold = h i;
+            write = n i;
+            configure = bit-back (k .configure) i;
+            error = bit-back (k .error) i;
+            broadcast = bit-back (k .broadcast) i;
+          };
+      port = λ i. record { silence = p .silence; mark = mark-back (p .mark) i };
     })
+
+-- with the memory, they are all
+pub written : {k : Core} {w : Memory} {p : Port} (ks : List ℕ) {ls : List ℕ} → length ks ≡ 26 → Passed k p ks ls → replyIn (memoryNumbers w) ≡ w
+    → Written k w p (putMemory (memoryNumbers w) ls)
+unfolding firsts numbersOf clockIn coreIn memoryIn portIn
+written ks l a m =
+    let s = rw (all-firsts 26 ks l) at (rw (a .plain) at a) in
+    rw (a .plain, all-firsts 26 ks l) (record { plain = refl; means = record { core = s .core; memory = m; port = s .port } })
+
+-- and numbers that stood keep their memory
+pub passed-written : {k l : Core} {w : Memory} {p q : Port} {ks ls : List ℕ} → Written k w p ks → Passed l q ks ls → Written l w q ls
+unfolding numbersOf memoryIn
+passed-written s a =
+    record {
+      plain = a .plain ∙ rw (s .plain);
+      means = record { core = a .core; memory = rw (a .plain, s .plain) (rw (s .plain) at (s .means .memory)); port = a .port };
+    }
 
 -- and one place changed: the error
 pub error-written : {k : Core} {w : Memory} {p : Port} {ks : List ℕ} (e : Bool) → Written k w p ks

@@ -96,7 +96,7 @@ module _ (n : WriteNumbers) where
 
   pub write-waits : n .write ≡ 1 → (ltb (n .master) 256 && ltb (n .ordinal) 256) ≡ same (writePlaces (writeNumbers (writeIn n))) (writePlaces n)
   unfolding writeIn writeNumbers same
-  write-waits e = rw e (simp (byte-same, eqb-same, and-assoc, and-true))
+  write-waits e = rw e (simp (byte-same, eqb-same, and-true))
 
   pub write-none : (n .write ≡ 0 → ⊥) → (n .write ≡ 1 → ⊥) → false ≡ same (writePlaces (writeNumbers (writeIn n))) (writePlaces n)
   unfolding writeIn writeNumbers same

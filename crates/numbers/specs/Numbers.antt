@@ -83,6 +83,11 @@ putMemory n ks = set (set (set (set (set (set ks 18 (n .memory)) 19 (n .master))
 abbrev pub putPort : Port → List ℕ → List ℕ
 putPort p ks = set (set ks 24 (p .silence)) 25 (markNumber (p .mark))
 
+-- core and port: those of the memory stay as they were
+abbrev pub putPassed : Core → Port → List ℕ → List ℕ
+putPassed k p ks =
+    putPort p (putBits (k .configure) (k .error) (k .broadcast) (putWrite (writeNumbers (k .write)) (putHold (holdNumbers (k .hold)) (putClock (k .clock) ks))))
+
 -- ---- read: any numbers mean something
 
 unfoldable pub holdIn : HoldNumbers → Hold
@@ -158,6 +163,12 @@ pub record Means (ks : List ℕ) (k : Core) (m : Memory) (p : Port) : Type 0 whe
   pub core : coreIn ks ≡ k
   pub memory : memoryIn ks ≡ m
   pub port : portIn ks ≡ p
+
+-- core and port written anew, which are read again as they were
+pub record Passed (k : Core) (p : Port) (ks ls : List ℕ) : Type 0 where
+  pub plain : ls ≡ putPassed k p ks
+  pub core : coreIn ls ≡ k
+  pub port : portIn ls ≡ p
 
 -- what is written: the numbers, and that they mean what was written
 pub record Written (k : Core) (m : Memory) (p : Port) (ks : List ℕ) : Type 0 where

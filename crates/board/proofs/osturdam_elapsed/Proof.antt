@@ -1,5 +1,5 @@
 -- `board::osturdam_elapsed` meets its contract. Assumes nothing.
-use Rattle.board.proofs.ToldLaws.{tells-read, tells-away}
+use Rattle.board.proofs.ToldLaws.{tells-passed, tells-away}
 use borrow.Author.Needs.{needs}
 use Rattle.board.proofs.osturdam_elapsed.Statement.{statement}
 use Rattle.board.proofs.osturdam_elapsed.Tie as tie
@@ -19,16 +19,16 @@ port-in-requires c κs = search needs
 elapsed-requires : tie.Need-elapsed-requires
 elapsed-requires c κs = search needs
 
-keep-requires : tie.Need-keep-requires
-keep-requires c κs = search needs
+keep-passed-requires : tie.Need-keep-passed-requires
+keep-passed-requires c κs = search needs
 
 number-requires : tie.Need-number-requires
 number-requires c κs = search needs
 
 returns : tie.Need-returns
 returns c = λ words results fixed area.
-    tells-read _ _ _ (c .before .before .before .before .before .before .before .before .before .before .before .before .before .stands .ensures) (c .before .before .before .before .before .before .before .before .before .before .core-in .ensures) (c .before .before .before .before .before .before .before .before .memory-in .ensures) (c .before .before .before .before .before .before .port-in .ensures) (c .before .before .before .before .before .before .before .before .before .before .before .before .if1 .taken) _
-    (c .before .before .before .before .before .elapsed .ensures words results fixed area) (c .before .keep .ensures) (c .number .ensures)
+    tells-passed _ _ _ (c .before .before .before .before .before .before .before .before .before .before .before .before .before .stands .ensures) (c .before .before .before .before .before .before .before .before .before .before .core-in .ensures) (c .before .before .before .before .before .before .before .before .memory-in .ensures) (c .before .before .before .before .before .before .port-in .ensures) (c .before .before .before .before .before .before .before .before .before .before .before .before .if1 .taken) _
+    (c .before .before .before .before .before .elapsed .ensures words results fixed area) (c .before .keep-passed .ensures) (c .number .ensures)
 
 unread-requires : tie.Need-unread-requires
 unread-requires c κs = search needs
@@ -45,7 +45,7 @@ osturdam-elapsed-spec =
     memory-in-requires
     port-in-requires
     elapsed-requires
-    keep-requires
+    keep-passed-requires
     number-requires
     returns
     unread-requires
