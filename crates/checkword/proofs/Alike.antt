@@ -1,7 +1,7 @@
 -- Words that are alike: kept by bits divided and by xor; and places up that are the sum of two others.
 -- Assumes nothing.
 use mathlib.Core.Path.{_≡_, refl, sym, ap, ap₂, _∙_, subst}
-use Prim.Native.Nat.{ℕ, zero, suc, _+_, _*_, _/_, _%_, _^_, _<_}
+use Prim.Native.Nat.{ℕ, zero, suc, _+_, _*_, _/_, _%_, _^_, _≤_, _<_}
 use native.Mathlib.Nat.{add-comm, mod-lt, zero-mul, one-mul}
 use native.Mathlib.Numerals.{one-add}
 use native.Mathlib.Omega.{arith}
@@ -30,10 +30,6 @@ unfolding factor
 factor-steps n v = ap (λ x. bitXor (bitSteps n v) x) (next n v) ∙ sym (bitSteps-xor n v (bitStep v))
 
 -- ---- alike
-
-pub steps-none : (v : ℕ) → bitSteps 0 v ≡ v
-unfolding bitSteps
-steps-none v = refl
 
 pub alike-is : {a b : ℕ} → a ≡ b → Alike a b
 alike-is e = record { same = ap factor e }
@@ -97,13 +93,16 @@ sum-is n a b e u h =
           (sym (factor-xor (bitXor (bitSteps a u) (bitSteps b u)) (bitSteps n u)) ∙ null (lost n a b) (lost-xor n a b) (lost-0 n a b) 16 u h e);
     }
 
--- the square of x^15 = 1 + x; and the fourth power of x^16 = x + x^2
-computed : (total (lost 30 0 2) 16 ≡ 0) × (total (lost 64 4 8) 16 ≡ 0)
+-- x^15 = 1 + x and its square; and the fourth power of x^16 = x + x^2
+computed : (total (lost 15 0 1) 16 ≡ 0) × (total (lost 30 0 2) 16 ≡ 0) × (total (lost 64 4 8) 16 ≡ 0)
 unfolding factor bitSteps bitStep
-computed = (refl, refl)
+computed = (refl, refl, refl)
 
-pub sum-30 : Sum 30 0 2
-sum-30 = sum-is 30 0 2 (computed .0)
+pub sum-fold : (k : ℕ) → 0 < k → k ≤ 2 → Sum (15 * k) 0 k
+sum-fold zero p h = absurd (omega arith)
+sum-fold (suc zero) p h = sum-is 15 0 1 (computed .0)
+sum-fold (suc (suc zero)) p h = sum-is 30 0 2 (computed .1)
+sum-fold (suc (suc (suc k))) p h = absurd (omega arith)
 
 pub sum-64 : Sum 64 4 8
-sum-64 = sum-is 64 4 8 (computed .1)
+sum-64 = sum-is 64 4 8 (computed .2)

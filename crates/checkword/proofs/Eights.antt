@@ -49,7 +49,7 @@ read-eight s i v a t w h r turned e =
           ∙ ap parity next;
     }
 
-pub read-end : (s : List ℕ) (i v a r e : ℕ) → i ≡ length s → Read s i v a → r ≡ bitSteps 64 v → (Alike e r) × (parity e ≡ parity a)
+pub read-end : (s : List ℕ) (i v a r e : ℕ) → i ≡ length s → Read s i v a → Alike r (bitSteps 64 v) → (Alike e r) × (parity e ≡ parity a)
     → e ≡ checkOf s
 read-end s i v a r e h k last even =
-    alike-same (alike-then (even .0) (alike-then (alike-is last) (k .left))) (even .1 ∙ k .even) ∙ ap (λ x. checkOf x) (part-whole s i h)
+    alike-same (alike-then (even .0) (alike-then last (k .left))) (even .1 ∙ k .even) ∙ ap (λ x. checkOf x) (part-whole s i h)

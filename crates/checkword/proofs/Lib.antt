@@ -8,7 +8,6 @@ pub mod Binary
 pub mod Whole
 pub mod Line
 pub mod Bursts
-pub mod Pairs
 pub mod Eights
 pub mod Frame
 pub mod Cases

@@ -3,19 +3,19 @@
 use mathlib.Core.Path.{_≡_, refl, sym, ap, ap₂, _∙_, subst}
 use mathlib.Core.List.{List, [], _∷_, _++_}
 use Prim.Native.Nat.{ℕ, suc, _+_, _-_, _*_, _/_, _%_, _^_, _≤_, _<_}
-use native.Mathlib.Nat.{zero-div, add-zero, mod-eq-of-lt, mul-mod-left, add-mul-mod-self-right}
+use native.Mathlib.Nat.{zero-div, add-comm, lt-of-lt-of-le, mod-eq-of-lt, add-mul-mod-self-right}
 use native.Mathlib.Decide.{decLt}
 use native.Mathlib.Omega.{arith}
-use lib.ListN.{length, take, drop, getD}
+use lib.ListN.{length, take, drop, getD, length-drop}
 use lib.Seq.{drop-cons}
 use lib.Bits.{xor-comm, xor-zero-r, xor-shifted}
-use lib.Pow.{pow-add, mod-pow-add, shl-shr, shr-shr, high}
+use lib.Pow.{pow-add, pow-mono, shr-shr, high}
 use Rattle.chars.specs.Put.{part}
 use Rattle.chars.specs.Word.{Characters}
-use Rattle.chars.proofs.PutLaws.{length-part, part-add}
+use Rattle.chars.proofs.PutLaws.{length-part, part-add, part-whole}
 use Rattle.chars.proofs.WordLaws.{characters-take, characters-drop}
 use Rattle.checkword.specs.Line.{bitAt, line}
-use Rattle.checkword.proofs.Binary.{low-bit}
+use Rattle.checkword.proofs.Binary.{low-bit, fallen-out}
 
 line-cons : (b : ℕ) (s : List ℕ) → b < 256 → line (b ∷ s) ≡ line s * 2 ^ 8 + b
 unfolding line
@@ -82,47 +82,63 @@ pub line-one : (s : List ℕ) (i : ℕ) → i < length s → line (part s i 1) �
 unfolding line part
 line-one s i h = ap (λ l. line (take 1 l)) (drop-cons s i 0 h) ∙ xor-zero-r (getD s i 0)
 
-line-lt : (s : List ℕ) → Characters s → line s < 2 ^ (8 * length s)
+pub line-lt : (s : List ℕ) → Characters s → line s < 2 ^ (8 * length s)
 unfolding line
 line-lt [] h = omega arith
 line-lt (c ∷ s) h = omega (arith, line-cons c s (h 0), line-lt s (λ i. h (suc i)), h 0, eight-up (length s))
 
+part-lt : (s : List ℕ) → Characters s → (i n : ℕ) → i + n ≤ length s → line (part s i n) < 2 ^ (8 * n)
+unfolding part
+part-lt s hs i n h =
+    subst (λ x. line (part s i n) < 2 ^ (8 * x)) (length-part s i n h) (line-lt (part s i n) (characters-take n (drop i s) (characters-drop i s hs)))
+
 -- of the first eight characters those from n on fall out of 64 places
 pub line-high : (s : List ℕ) → Characters s → (n : ℕ) → n ≤ 8 → 8 ≤ length s
     → line (part s 0 8) * 2 ^ (64 - 8 * n) % 2 ^ 64 ≡ line (part s 0 n) * 2 ^ (64 - 8 * n)
-unfolding part
 line-high s hs n h k =
     let l : 0 + n ≤ length s = omega arith in
-    let g : 64 ≡ 8 * n + (64 - 8 * n) = omega arith in
     let d : 8 ≡ n + (8 - n) = omega arith in
-    let small : line (part s 0 n) < 2 ^ (8 * n) =
-    subst (λ x. line (part s 0 n) < 2 ^ (8 * x)) (length-part s 0 n l) (line-lt (part s 0 n) (characters-take n s hs)) in
-    ap (λ x. line (part s 0 8) * 2 ^ (64 - 8 * n) % 2 ^ x) g
-    ∙ mod-pow-add (line (part s 0 8) * 2 ^ (64 - 8 * n)) (8 * n) (64 - 8 * n)
-    ∙ ap₂ (λ x y. x % 2 ^ (8 * n) * 2 ^ (64 - 8 * n) + y) (shl-shr (line (part s 0 8)) (64 - 8 * n))
-    (mul-mod-left (line (part s 0 8)) (2 ^ (64 - 8 * n)))
-    ∙ add-zero (line (part s 0 8) % 2 ^ (8 * n) * 2 ^ (64 - 8 * n))
+    fallen-out (line (part s 0 8)) (64 - 8 * n) (8 * n) 64 (omega arith)
     ∙ ap (λ x. x * 2 ^ (64 - 8 * n))
     (ap (λ x. line (part s 0 x) % 2 ^ (8 * n)) d
     ∙ ap (λ x. x % 2 ^ (8 * n)) (line-join s hs 0 n (8 - n) l)
     ∙ add-mul-mod-self-right (line (part s 0 n)) (line (part s (0 + n) (8 - n))) (2 ^ (8 * n))
-    ∙ mod-eq-of-lt small)
+    ∙ mod-eq-of-lt (part-lt s hs 0 n l))
 
--- ---- a number of 64 places as eight characters
+-- ---- the number of a short list
 
-low-first : (v : ℕ) (s : List ℕ) → line s ≡ v / 2 ^ 8 → line (v % 256 ∷ s) ≡ v
-low-first v s e = line-cons (v % 256) s (omega arith) ∙ omega arith
+-- of the last four characters of four to eight, those after the first four
+pub line-ends : (s : List ℕ) → Characters s → (n : ℕ) → n ≡ length s → 4 ≤ n → n ≤ 8
+    → line s ≡ line (part s 0 4) + line (part s (n - 4) 4) / 2 ^ (64 - 8 * n) * 2 ^ 32
+line-ends s hs n e h k =
+    let m = n - 4 in
+    let first : 0 + 4 ≤ length s = omega arith in
+    let l : m + (8 - n) ≤ length s = omega arith in
+    let p : n ≡ 4 + m = omega arith in
+    let q : 4 ≡ (8 - n) + m = omega arith in
+    let at : m + (8 - n) ≡ 4 = omega arith in
+    let up : 8 * (8 - n) ≡ 64 - 8 * n = omega arith in
+    let a = line (part s m (8 - n)) in
+    let b = line (part s 4 m) in
+    let four : line (part s m 4) ≡ b * 2 ^ (64 - 8 * n) + a =
+    ap (λ x. line (part s m x)) q
+    ∙ line-join s hs m (8 - n) m l
+    ∙ ap₂ (λ x y. a + line (part s x m) * 2 ^ y) at up
+    ∙ add-comm a (b * 2 ^ (64 - 8 * n)) in
+    let rest : line (part s m 4) / 2 ^ (64 - 8 * n) ≡ b =
+    ap (λ x. x / 2 ^ (64 - 8 * n)) four ∙ high b (64 - 8 * n) (subst (λ x. a < 2 ^ x) up (part-lt s hs m (8 - n) l)) in
+    ap line (sym (part-whole s n e))
+    ∙ ap (λ x. line (part s 0 x)) p
+    ∙ line-join s hs 0 4 m first
+    ∙ ap (λ x. line (part s 0 4) + x * 2 ^ 32) (sym rest)
 
-then : (v k : ℕ) (s : List ℕ) → line s ≡ v / 2 ^ (k + 8) → line (v / 2 ^ k % 256 ∷ s) ≡ v / 2 ^ k
-then v k s e = low-first (v / 2 ^ k) s (e ∙ sym (shr-shr v k 8))
+-- one character more, from the end on
+pub line-drop : (s : List ℕ) → Characters s → (i j : ℕ) → i < length s → j ≡ suc i → 256 * line (drop j s) + getD s i 0 ≡ line (drop i s)
+line-drop s hs i j h e =
+    ap (λ k. 256 * line (drop k s) + getD s i 0) e
+    ∙ omega (arith, ap line (drop-cons s i 0 h), line-cons (getD s i 0) (drop (suc i) s) (hs i))
 
--- the characters of v, low places first, are v again
-pub eight-is : (v : ℕ)
-    → line
-    (v % 256 ∷ v / 2 ^ 8 % 256 ∷ v / 2 ^ 16 % 256 ∷ v / 2 ^ 24 % 256 ∷ v / 2 ^ 32 % 256 ∷ v / 2 ^ 40 % 256 ∷ v / 2 ^ 48 % 256 ∷ v / 2 ^ 56 ∷ [])
-    ≡ v
-eight-is v =
-    low-first v _ (then v 8 _ (then v 16 _ (then v 24 _ (then v 32 _ (then v 40 _ (then v 48 _ top))))))
-  where
-    top : line (v / 2 ^ 56 ∷ []) ≡ v / 2 ^ 56
-    top = unfold line in xor-zero-r (v / 2 ^ 56)
+pub few-lt : (s : List ℕ) → Characters s → length s < 4 → (i : ℕ) → line (drop i s) < 2 ^ 24
+few-lt s hs h i =
+    let l : 8 * length (drop i s) ≤ 24 = omega (arith, length-drop i s) in
+    lt-of-lt-of-le (line-lt (drop i s) (characters-drop i s hs)) (pow-mono l)

@@ -1,10 +1,10 @@
 -- Bits divided, one and several: linear under xor, and nothing of sixteen bits is lost.
 -- Assumes nothing.
-use mathlib.Core.Path.{_≡_, refl, sym, ap, ap₂, _∙_}
-use Prim.Native.Nat.{ℕ, zero, suc, _+_, _*_, _/_, _%_, _^_, _<_}
-use native.Mathlib.Nat.{mod-lt, mul-one, zero-add, suc-add, zero-div}
+use mathlib.Core.Path.{_≡_, refl, sym, ap, ap₂, _∙_, subst}
+use Prim.Native.Nat.{ℕ, zero, suc, _+_, _*_, _/_, _%_, _^_, _≤_, _<_}
+use native.Mathlib.Nat.{mod-lt, mul-one, zero-add, suc-add, zero-div, lt-of-lt-of-le}
 use native.Mathlib.Omega.{arith}
-use lib.Pow.{split, pow-pos, shl-shr}
+use lib.Pow.{split, pow-pos, pow-mono, shl-shr, shr-lt}
 use lib.Bits.{bitXor, xor-zero-r, xor-shr, xor-mod, xor-lt, xor-shifted, shifted-half, shifted-even}
 use Rattle.checkword.specs.Check.{poly, bitStep, bitSteps}
 use Rattle.checkword.proofs.Xor.{odd, xor-swap, xor-zero}
@@ -38,6 +38,10 @@ unfolding bitSteps
 bitSteps-shifted zero h = mul-one h
 bitSteps-shifted (suc k) h = ap (λ x. bitSteps k x) (bitStep-even h k) ∙ bitSteps-shifted k h
 
+pub steps-none : (v : ℕ) → bitSteps 0 v ≡ v
+unfolding bitSteps
+steps-none v = refl
+
 pub bitSteps-add : (m n v : ℕ) → bitSteps (m + n) v ≡ bitSteps n (bitSteps m v)
 unfolding bitSteps
 bitSteps-add zero n v = ap (λ x. bitSteps x v) (zero-add n)
@@ -56,10 +60,19 @@ pub bitStep-lt : (v : ℕ) → v < 2 ^ 16 → bitStep v < 2 ^ 16
 unfolding bitStep
 bitStep-lt v h = xor-lt 16 (v / 2) (v % 2 * poly) (omega arith) (omega arith)
 
+-- k bits divided leave sixteen of 16 + k
+pub sixteen : (k v : ℕ) → v < 2 ^ (16 + k) → bitSteps k v < 2 ^ 16
+unfolding bitSteps bitStep
+sixteen zero v h = h
+sixteen (suc k) v h =
+    let m : 16 + suc k ≡ 16 + k + 1 = omega arith in
+    let p : v % 2 * poly < 2 ^ 16 = omega arith in
+    let l : 16 ≤ 16 + k = omega arith in
+    sixteen k (bitStep v)
+    (xor-lt (16 + k) (v / 2) (v % 2 * poly) (shr-lt (16 + k) 1 (subst (λ x. v < 2 ^ x) m h)) (lt-of-lt-of-le p (pow-mono l)))
+
 pub bitSteps-lt : (n v : ℕ) → v < 2 ^ 16 → bitSteps n v < 2 ^ 16
-unfolding bitSteps
-bitSteps-lt zero v h = h
-bitSteps-lt (suc n) v h = bitSteps-lt n (bitStep v) (bitStep-lt v h)
+bitSteps-lt n v h = let l : 16 ≤ 16 + n = omega arith in sixteen n v (lt-of-lt-of-le h (pow-mono l))
 
 pub bitStep-zero : (v : ℕ) → v < 2 ^ 16 → bitStep v ≡ 0 → v ≡ 0
 unfolding bitStep

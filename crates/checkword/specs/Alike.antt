@@ -1,9 +1,9 @@
 -- Words by the two factors of the polynomial, x + 1 and x^15 + x + 1 (document 01, "Frames", check sentence).
 use mathlib.Core.Path.{_≡_}
-use Prim.Native.Nat.{ℕ, _%_}
+use Prim.Native.Nat.{ℕ, _+_, _-_, _*_, _%_, _^_, _≤_}
 use lib.Bits.{bitXor}
 use lib.Count.{ones}
-use Rattle.checkword.specs.Check.{bitStep}
+use Rattle.checkword.specs.Check.{bitStep, bitSteps}
 
 -- multiplied by x + 1, which takes the first factor's part away (document 01, "Frames", check sentence)
 unfoldable pub factor : ℕ → ℕ
@@ -12,6 +12,11 @@ factor v = bitXor v (bitStep v)
 -- a and b leave the same by the second factor (document 01, "Frames", check sentence)
 pub record Alike (a b : ℕ) : Type 0 where
   pub same : factor a ≡ factor b
+
+-- r is v folded by 15 k: alike, and 14 k more of its low places are empty, up to the highest 15 k (document 01, "Frames", check sentence)
+pub record Folded (k v r : ℕ) : Type 0 where
+  pub alike : Alike (bitSteps 64 r) (bitSteps 64 v)
+  pub empty : (n : ℕ) → n + 14 * k ≤ 64 - 15 * k → v % 2 ^ n ≡ 0 → r % 2 ^ (n + 14 * k) ≡ 0
 
 -- 1 where the ones of v are odd, which is what v leaves by the first factor (document 01, "Frames", check sentence)
 unfoldable pub parity : ℕ → ℕ

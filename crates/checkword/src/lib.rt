@@ -2,49 +2,40 @@
 mod reading;
 mod table;
 
+use reading::all;
 use reading::eight;
 use reading::head;
-use table::TABLE;
 use table::by_table;
 ghost use mathlib.Core.Path.{_≡_};
-ghost use Prim.Native.Nat.{_%_, _^_, _≤_};
+ghost use Prim.Native.Nat.{_≤_, _<_};
 ghost use lib.ListN.{length};
 ghost use Rattle.checkword.specs.Check.{bitSteps, checkOf};
-ghost use Rattle.checkword.specs.Table.{words};
-ghost use Rattle.checkword.specs.Alike.{Alike, parity};
+ghost use Rattle.checkword.specs.Alike.{Alike, Folded, parity};
 
 // By x^15 + x + 1 a bit is worth the bits 15 and 14 places up, and so those 30 and 28 places up.
-fn fold(v: u64) -> u64
-    ensures { λ r. ⌜ (Alike (bitSteps 64 r) (bitSteps 64 v)) × (r % 2 ^ 28 ≡ 0) ⌝ }
+fn fold(v: u64, k: usize) -> u64
+    requires { ⌜ (0 < k) × (k ≤ 2) ⌝ }
+    ensures { λ r. ⌜ Folded k v r ⌝ }
 {
-    let x = v << 30;
-    (x ^ (x >> 2)) ^ ((v >> 34) << 34)
+    let x = v << (15 * k);
+    let n = 64 - 15 * k;
+    (x ^ (x >> k)) ^ ((v >> n) << n)
 }
 
 // Eight characters more are divided: by x^15 + x + 1 that is 64 places as the sum of 8 and 4.
 fn turn(v: u64) -> u64
     ensures { λ r. ⌜ Alike (bitSteps 64 r) (bitSteps 64 (bitSteps 64 v)) ⌝ }
 {
-    let y = fold(v);
+    let y = fold(v, 2);
     (y >> 4) ^ (y >> 8)
 }
 
-// The 64 places as eight characters, which the table divides.
-fn last(table: &[u16; 256], v: u64) -> u16
-    requires { ⌜ now table ≡ words ⌝ }
-    ensures { λ r. ⌜ r ≡ bitSteps 64 v ⌝ }
+// The 64 places folded to the last two characters, which the table divides.
+fn last(v: u64) -> u16
+    ensures { λ r. ⌜ Alike r (bitSteps 64 v) ⌝ }
 {
-    let cs = [
-        (v % 256) as u8,
-        ((v >> 8) % 256) as u8,
-        ((v >> 16) % 256) as u8,
-        ((v >> 24) % 256) as u8,
-        ((v >> 32) % 256) as u8,
-        ((v >> 40) % 256) as u8,
-        ((v >> 48) % 256) as u8,
-        (v >> 56) as u8,
-    ];
-    by_table(table, &cs)
+    let y = fold(fold(fold(v, 2), 1), 1);
+    by_table(y >> 48, 2)
 }
 
 // The other factor, x + 1: x^15 + x + 1 itself makes the ones odd or even as those of a.
@@ -57,9 +48,9 @@ fn evened(r: u16, a: u64) -> u16
     r
 }
 
-// The list is folded to its last eight characters, one load a turn, before the table works them.
-fn folded(table: &[u16; 256], s: &[u8]) -> u16
-    requires { ⌜ (now table ≡ words) × (8 ≤ length (now s)) ⌝ }
+// The list is folded to its last eight characters, one load a turn, and those to two, which the table works.
+fn folded(s: &[u8]) -> u16
+    requires { ⌜ 8 ≤ length (now s) ⌝ }
     ensures { λ r. ⌜ r ≡ checkOf (now (s .entry)) ⌝ }
 {
     let mut i = (s.len() - 1) % 8 + 1;
@@ -71,28 +62,18 @@ fn folded(table: &[u16; 256], s: &[u8]) -> u16
         a = a ^ w;
         i += 8;
     }
-    evened(last(table, v), a)
+    evened(last(v), a)
 }
 
-// From here on folding costs less than the table over all characters (bench/checkword has the counts).
-const LONG: usize = 12;
+// Fewer characters are one number, which the table divides for less than folding costs (bench/checkword has the counts).
+const LONG: usize = 9;
 
-// The table is lent to both ways, so that it is laid out once and its rule tested once.
-fn worked(table: &[u16; 256], s: &[u8]) -> u16
-    requires { ⌜ now table ≡ words ⌝ }
-    ensures { λ r. ⌜ r ≡ checkOf (now (s .entry)) ⌝ }
-{
-    if s.len() < LONG {
-        return by_table(table, s);
-    }
-    folded(table, s)
-}
-
-// The table is a local: `TABLE[k]` would lay it out at each look-up (bench/checkword has the counts).
 #[no_mangle]
 pub extern "C" fn check_word(s: &[u8]) -> u16
     ensures { λ r. ⌜ r ≡ checkOf (now (s .entry)) ⌝ }
 {
-    let table = TABLE;
-    worked(&table, s)
+    if s.len() >= LONG {
+        return folded(s);
+    }
+    by_table(all(s), s.len())
 }

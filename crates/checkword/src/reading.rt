@@ -6,14 +6,14 @@ ghost use Rattle.chars.specs.Put.{part};
 ghost use Rattle.checkword.specs.Line.{line};
 
 // Two characters as a word.
-pub fn pair(low: u8, high: u8) -> u16
+fn pair(low: u8, high: u8) -> u16
     ensures { λ r. ⌜ r ≡ low + 256 * high ⌝ }
 {
     (low as u16) + 256 * (high as u16)
 }
 
 // The characters from i on: two, four and eight of them, of which the compiler makes one load.
-pub fn two(s: &[u8], i: usize) -> u16
+fn two(s: &[u8], i: usize) -> u16
     requires { ⌜ i + 2 ≤ length (now s) ⌝ }
     ensures { λ r. ⌜ r ≡ line (part (now (s .entry)) i 2) ⌝ }
 {
@@ -32,6 +32,40 @@ pub fn eight(s: &[u8], i: usize) -> u64
     ensures { λ r. ⌜ r ≡ line (part (now (s .entry)) i 8) ⌝ }
 {
     (four(s, i) as u64) + 4294967296 * (four(s, i + 4) as u64)
+}
+
+// Fewer than four characters, the last one first.
+fn few(s: &[u8]) -> u64
+    requires { ⌜ length (now s) < 4 ⌝ }
+    ensures { λ r. ⌜ r ≡ line (now (s .entry)) ⌝ }
+{
+    let mut v: u64 = 0;
+    let mut i = s.len();
+    while i > 0 {
+        i -= 1;
+        v = 256 * v + (pair(s[i], 0) as u64);
+    }
+    v
+}
+
+// Four to eight characters: the first four, and those of the last four that come after them.
+fn several(s: &[u8]) -> u64
+    requires { ⌜ (4 ≤ length (now s)) × (length (now s) ≤ 8) ⌝ }
+    ensures { λ r. ⌜ r ≡ line (now (s .entry)) ⌝ }
+{
+    let n = s.len();
+    (four(s, 0) as u64) + (((four(s, n - 4) as u64) >> (64 - 8 * n)) << 32)
+}
+
+// All characters of a list of at most eight.
+pub fn all(s: &[u8]) -> u64
+    requires { ⌜ length (now s) ≤ 8 ⌝ }
+    ensures { λ r. ⌜ r ≡ line (now (s .entry)) ⌝ }
+{
+    if s.len() < 4 {
+        return few(s);
+    }
+    several(s)
 }
 
 // The first n characters, in the high places: those after them fall out.

@@ -10,10 +10,10 @@ use Rattle.checkword.proofs.folded.Statement.{statement}
 use Rattle.checkword.proofs.folded.Tie as tie
 
 abbrev Inv-loop : tie.InvT-loop
-Inv-loop table s i₀ v₀ a₀ i v a = (i ≤ length s) × ((length s - i) % 8 ≡ 0) × Read s i v a
+Inv-loop s i₀ v₀ a₀ i v a = (i ≤ length s) × ((length s - i) % 8 ≡ 0) × Read s i v a
 
 abbrev μ-loop : tie.MeasureT-loop
-μ-loop table s i₀ v₀ a₀ i v a = length s - i
+μ-loop s i₀ v₀ a₀ i v a = length s - i
 
 sub-i : tie.Need-sub-i Inv-loop μ-loop
 sub-i c = omega arith
