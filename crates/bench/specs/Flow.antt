@@ -1,5 +1,4 @@
 -- How far reading and writing are, in range.
-use mathlib.Core.Path.{_≡_}
 use Prim.Native.Nat.{_≤_}
 use Rattle.bench.specs.declared.flow.Flow.{Flow}
 

@@ -3,40 +3,18 @@ use super::flow;
 use super::flow::Flow;
 use frames::outcomes;
 use lines::Line;
-use model::Core;
-use model::Memory;
-use model::Port;
 ghost use mathlib.Core.Path.{_≡_};
 ghost use Prim.Native.Nat.{_+_, _≤_, _<_};
 ghost use lib.ListN.{length};
-ghost use Rattle.model.specs.State.{freshCore, freshPort};
 ghost use Rattle.model.specs.Bench.{benchConfig};
 ghost use Rattle.bench.specs.Flow.{Flows};
 
 const UNIT: u16 = 1234;
 
-// What the unit keeps by value.
-pub struct Kept {
-    pub core: Core,
-    pub memory: Memory,
-    pub port: Port,
-}
-
-// How a line ended: what the unit keeps now, the outcome, and how many characters it sent.
+// How a line ended: the outcome, and how many characters the unit sent.
 pub struct Ended {
-    pub kept: Kept,
     pub outcome: u8,
     pub sent: usize,
-}
-
-pub fn fresh() -> Kept
-    ensures { λ r. ⌜ r ≡ record { core = freshCore; memory = Memory.Nothing; port = freshPort } ⌝ }
-{
-    Kept {
-        core: unit::fresh_core(),
-        memory: unit::fresh_memory(),
-        port: unit::fresh_port(),
-    }
 }
 
 // Inputs 30h and 40h, and no others.
@@ -52,7 +30,7 @@ pub fn equipped() -> [u8; 256]
 // The stretch is the first n characters that were heard.
 fn hear<'a>(
     inputs: &'a [u8; 256],
-    kept: Kept,
+    kept: &mut [u16; 26],
     words: &mut [u16; 256],
     results: &'a [u32; 128],
     fixed: &mut [u8; 528],
@@ -68,9 +46,6 @@ fn hear<'a>(
     let none = [0u8; 256];
     let files = [0u8; 32];
     let mut block = [0u8; 0];
-    let core = kept.core;
-    let memory = kept.memory;
-    let port = kept.port;
     let turn = unit::stretch(
         UNIT,
         0,
@@ -79,9 +54,7 @@ fn hear<'a>(
         &none,
         &files,
         &files,
-        core,
-        memory,
-        port,
+        kept,
         words,
         results,
         fixed,
@@ -92,30 +65,19 @@ fn hear<'a>(
         &heard[..n],
     );
     let outcome = turn.outcome;
-    let core = turn.core;
-    let memory = turn.memory;
-    let port = turn.port;
     Ended {
-        kept: Kept {
-            core: core,
-            memory: memory,
-            port: port,
-        },
         outcome: outcomes::number(outcome),
         sent: turn.sent,
     }
 }
 
-fn wait<'a>(inputs: &'a [u8; 256], kept: Kept, counts: &'a [u8; 32], ms: u32) -> Ended
+fn wait<'a>(inputs: &'a [u8; 256], kept: &mut [u16; 26], counts: &'a [u8; 32], ms: u32) -> Ended
     ensures { λ r. ⌜ r .sent ≡ 0 ⌝ }
 {
     let none = [0u8; 256];
     let files = [0u8; 32];
     let block = [0u8; 0];
-    let core = kept.core;
-    let memory = kept.memory;
-    let port = kept.port;
-    let passed = events::elapsed(
+    let outcome = events::elapsed(
         UNIT,
         0,
         inputs,
@@ -123,31 +85,15 @@ fn wait<'a>(inputs: &'a [u8; 256], kept: Kept, counts: &'a [u8; 32], ms: u32) ->
         &none,
         &files,
         &files,
-        core,
-        memory,
-        port,
+        kept,
         &block,
         counts,
         ms,
     );
-    let outcome = passed.outcome;
-    let core = passed.core;
-    let port = passed.port;
     Ended {
-        kept: Kept {
-            core: core,
-            memory: memory,
-            port: port,
-        },
         outcome: outcomes::number(outcome),
         sent: 0,
     }
-}
-
-// What is kept from line to line, but for what is lent.
-pub struct State {
-    pub kept: Kept,
-    pub flow: Flow,
 }
 
 fn show(shown: &mut [u8], flow: Flow, ended: Ended, reply: &[u8]) -> Flow
@@ -177,6 +123,7 @@ fn show_other(shown: &mut [u8], flow: Flow) -> Flow
 // A whole line: the unit hears or waits as it says, and how that ended is shown.
 pub fn answer<'a>(
     inputs: &'a [u8; 256],
+    kept: &mut [u16; 26],
     words: &mut [u16; 256],
     results: &'a [u32; 128],
     fixed: &mut [u8; 528],
@@ -184,11 +131,10 @@ pub fn answer<'a>(
     counts: &mut [u8; 32],
     line: &'a [u8],
     shown: &mut [u8],
-    kept: Kept,
     flow: Flow,
-) -> State
+) -> Flow
     requires { ⌜ Flows flow × (flow .number + 1 < 18446744073709551616) × (length (now line) ≡ 2001) × (length (now shown) ≡ 65536) ⌝ }
-    ensures { λ r. ⌜ Flows (r .flow) × (r .flow .number ≡ flow .number + 1) × (r .flow .length ≡ 0) ⌝ }
+    ensures { λ r. ⌜ Flows r × (r .number ≡ flow .number + 1) × (r .length ≡ 0) ⌝ }
 {
     let mut heard = [0u8; 999];
     let mut reply = [0u8; 520];
@@ -208,23 +154,12 @@ pub fn answer<'a>(
                 n,
                 &mut reply,
             );
-            let next = ended.kept;
-            State {
-                kept: next,
-                flow: show(shown, flow, ended, &reply),
-            }
+            show(shown, flow, ended, &reply)
         }
         Line::Time(ms) => {
             let ended = wait(inputs, kept, counts, ms);
-            let next = ended.kept;
-            State {
-                kept: next,
-                flow: show(shown, flow, ended, &reply),
-            }
+            show(shown, flow, ended, &reply)
         }
-        Line::Other => State {
-            kept: kept,
-            flow: show_other(shown, flow),
-        },
+        Line::Other => show_other(shown, flow),
     }
 }

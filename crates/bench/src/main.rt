@@ -3,7 +3,7 @@
 mod answers;
 mod flow;
 
-use answers::State;
+use flow::Flow;
 ghost use Prim.Native.Nat.{_+_, _≤_, _<_};
 ghost use mathlib.Core.Path.{_≡_};
 ghost use lib.ListN.{length};
@@ -12,6 +12,7 @@ ghost use Rattle.bench.specs.Flow.{Flows};
 // A step of the flow, and the line answered that it made whole.
 fn turn<'a>(
     inputs: &'a [u8; 256],
+    kept: &mut [u16; 26],
     words: &mut [u16; 256],
     results: &'a [u32; 128],
     fixed: &mut [u8; 528],
@@ -20,17 +21,16 @@ fn turn<'a>(
     read: &mut [u8],
     line: &mut [u8],
     shown: &mut [u8],
-    state: State,
-) -> State
-    requires { ⌜ Flows (state .flow) × (state .flow .number + 1 < 18446744073709551616) × (length (now read) ≡ 65536) × (length (now line) ≡ 2001) × (length (now shown) ≡ 65536) ⌝ }
-    ensures { λ r. ⌜ Flows (r .flow) × (r .flow .number ≤ state .flow .number + 1) ⌝ }
+    before: Flow,
+) -> Flow
+    requires { ⌜ Flows before × (before .number + 1 < 18446744073709551616) × (length (now read) ≡ 65536) × (length (now line) ≡ 2001) × (length (now shown) ≡ 65536) ⌝ }
+    ensures { λ r. ⌜ Flows r × (r .number ≤ before .number + 1) ⌝ }
 {
-    let kept = state.kept;
-    let before = state.flow;
     let flow = flow::step(read, line, shown, before);
     if flow.whole {
         return answers::answer(
             inputs,
+            kept,
             words,
             results,
             fixed,
@@ -38,19 +38,16 @@ fn turn<'a>(
             counts,
             line,
             shown,
-            kept,
             flow,
         );
     }
-    State {
-        kept: kept,
-        flow: flow,
-    }
+    flow
 }
 
 // Turns until the input ends. Nothing says that it does: they are counted down from a number that no input uses up.
 fn run<'a>(
     inputs: &'a [u8; 256],
+    kept: &mut [u16; 26],
     words: &mut [u16; 256],
     results: &'a [u32; 128],
     fixed: &mut [u8; 528],
@@ -60,14 +57,12 @@ fn run<'a>(
     let mut read = [0u8; 65536];
     let mut line = [0u8; 2001];
     let mut shown = [0u8; 65536];
-    let mut state = State {
-        kept: answers::fresh(),
-        flow: flow::start(),
-    };
+    let mut flow = flow::start();
     let mut turns = u64::MAX;
     while 0 < turns {
-        state = turn(
+        flow = turn(
             inputs,
+            kept,
             words,
             results,
             fixed,
@@ -76,28 +71,38 @@ fn run<'a>(
             &mut read,
             &mut line,
             &mut shown,
-            state,
+            flow,
         );
-        if state.flow.over {
+        if flow.over {
             turns = 0;
         } else {
             turns -= 1;
         }
     }
-    let flow = state.flow;
     flow::write_out(&shown, flow);
 }
 
-// The unit is fresh: every word, value, block and count is 0.
+// The unit is fresh, and has no parameters.
 fn main() {
     let inputs = answers::equipped();
+    let mut kept = [0u16; 26];
     let mut words = [0u16; 256];
-    let results = [0u32; 128];
+    let mut results = [0u32; 128];
     let mut fixed = [0u8; 528];
+    let mut block = [0u8; 0];
     let mut area = [0u8; 38912];
     let mut counts = [0u8; 32];
+    unit::fresh(
+        &mut kept,
+        &mut words,
+        &mut results,
+        &mut fixed,
+        &mut block,
+        &mut counts,
+    );
     run(
         &inputs,
+        &mut kept,
         &mut words,
         &results,
         &mut fixed,

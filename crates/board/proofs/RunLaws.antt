@@ -1,42 +1,42 @@
 -- A run of calls from C is a run of the unit's entries: no call of the library leaves numbers that the next turns away.
 -- Assumes nothing.
-use mathlib.Core.Path.{_≡_, refl, sym, ap, _∙_}
+use mathlib.Core.Path.{_≡_, refl, ap, _∙_}
 use Prim.Native.Nat.{ℕ}
 use mathlib.Core.List.{List, [], _∷_, map}
 use mathlib.Core.Bool.{true}
 use Rattle.model.specs.Config.{Config}
-use Rattle.model.specs.State.{freshCore, freshPort, freshOf}
+use Rattle.model.specs.State.{freshOf}
 use Rattle.model.specs.Step.{Event}
 use Rattle.model.specs.Run.{afterFrom, traceFrom, after, trace}
-use Rattle.model.specs.declared.Memory.the-variants.{Nothing}
 use Rattle.numbers.specs.Numbers.{readable}
 use Rattle.numbers.proofs.NumbersLaws.{written-readable}
-use Rattle.events.specs.Kept.{stateOf, keptOf}
-use Rattle.unit.specs.Calls.{Calls, none as noCalls, heard as heardCall, heeded as heededCall}
+use Rattle.events.specs.Kept.{stateOf, keptOf, Owned, ownedOf, keptIn}
+use Rattle.unit.specs.Fresh.{Freshly}
+use Rattle.unit.specs.Calls.{none as noCalls, heard as heardCall, heeded as heededCall}
 use Rattle.unit.proofs.FreshLaws.{fresh-is}
 use Rattle.unit.proofs.CallLaws.{results as resultsOf, calls-after, calls-trace}
-use Rattle.board.specs.Told.{Owned, ownedOf, keptIn, actionNumber, outputNumber, Freshly}
+use Rattle.board.specs.Told.{actionNumber, outputNumber}
 use Rattle.board.specs.Runs.{Shown, numbered, shownIn, Runs, none, heard, heeded, RunsAs}
 
 pub runs-as : (c : Config) {x y : Owned} {es : List Event} {xs : List Shown} → readable (x .numbers) ≡ true → Runs c x es xs y → RunsAs c x es xs y
 unfolding numbered actionNumber outputNumber
 runs-as c e none = record { results = []; calls = noCalls; shown = refl; stand = e }
 runs-as c e (heard {exit = exit} a rest) =
-    let b = a .read e in
+    let b = a .serves .read e in
     let w = runs-as c (b .stand) rest in
     record {
       results = _;
       calls = heardCall (b .turns) (w .calls);
-      shown = λ i. shownIn (b .shown i) exit ∷ w .shown i;
+      shown = λ i. shownIn (a .shown i) exit ∷ w .shown i;
       stand = w .stand;
     }
 runs-as c e (heeded l a rest) =
-    let b = a .read e in
+    let b = a .tells .read e in
     let w = runs-as c (b .stand) rest in
     record {
       results = _;
       calls = heededCall l (b .heeds) (w .calls);
-      shown = λ i. record { answer = b .told i; action = 0; output = 0; reply = [] } ∷ w .shown i;
+      shown = λ i. record { answer = a .said i; action = 0; output = 0; reply = [] } ∷ w .shown i;
       stand = w .stand;
     }
 

@@ -9,9 +9,10 @@ use Rattle.model.specs.Config.{Config}
 use Rattle.model.specs.Step.{Event, stretch}
 use Rattle.model.specs.Run.{Result}
 use Rattle.numbers.specs.Numbers.{readable}
+use Rattle.events.specs.Kept.{Owned, keptIn}
 use Rattle.unit.specs.Calls.{Local, Calls}
 use Rattle.board.specs.declared.Turned.{Turned}
-use Rattle.board.specs.Told.{Owned, keptIn, actionNumber, outputNumber, Serves, Tells}
+use Rattle.board.specs.Told.{actionNumber, outputNumber, Shows, Says}
 
 -- a result in numbers
 pub record Shown : Type 0 where
@@ -36,9 +37,9 @@ toldIn n = record { answer = n; action = 0; output = 0; reply = [] }
 pub data Runs (c : Config) : Owned → List Event → List Shown → Owned → Type 0 where
   none : {x : Owned} → Runs c x [] [] x
   heard : {x y z : Owned} {s entry exit : List ℕ} {r : Turned} {es : List Event} {xs : List Shown}
-      → Serves c s x y entry exit r → Runs c y es xs z → Runs c x (stretch (length entry) s ∷ es) (shownIn r exit ∷ xs) z
+      → Shows c s x y entry exit r → Runs c y es xs z → Runs c x (stretch (length entry) s ∷ es) (shownIn r exit ∷ xs) z
   heeded : {x y z : Owned} {e : Event} {n : ℕ} {es : List Event} {xs : List Shown}
-      → Local e → Tells c e x y n → Runs c y es xs z → Runs c x (e ∷ es) (toldIn n ∷ xs) z
+      → Local e → Says c e x y n → Runs c y es xs z → Runs c x (e ∷ es) (toldIn n ∷ xs) z
 
 -- a run of the unit's entries that showed the same, and numbers that stand after it
 pub record RunsAs (c : Config) (x : Owned) (es : List Event) (xs : List Shown) (y : Owned) : Type 0 where

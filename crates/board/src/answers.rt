@@ -7,7 +7,7 @@ use model::Outcome;
 use model::Stored;
 ghost use mathlib.Core.Path.{_≡_};
 ghost use mathlib.Core.Bool.{cond};
-ghost use Rattle.model.specs.Outcome.{numberOf, storedNumber, answerNumber};
+ghost use Rattle.model.specs.Outcome.{storedNumber, answerNumber};
 ghost use Rattle.board.specs.Told.{turnedBy};
 
 fn stored_number(stored: Stored) -> u8
@@ -28,13 +28,6 @@ pub fn answer_number(answer: Answer) -> u8
         Answer::Ended(outcome) => number(outcome),
         Answer::Storing(stored) => stored_number(stored),
     }
-}
-
-// How numbers that no unit writes are answered.
-pub fn unread() -> u8
-    ensures { λ r. ⌜ r ≡ numberOf Outcome.NotConfigured ⌝ }
-{
-    number(Outcome::NotConfigured)
 }
 
 pub fn shown(sent: usize, outcome: Outcome, action: Action) -> Turned

@@ -1,31 +1,21 @@
 // The C interface: one call an event, over numbers and arrays that the caller owns. No enum crosses it, so that every pattern of
-// the kept numbers means something, and numbers that no unit writes are turned away: by 18 where the buffer is short, else by 17.
+// what it takes means something.
 mod answers;
 
 use answers::answer_number;
 use answers::shown;
-use answers::unread;
 use frames::outcomes::number;
-use model::Action;
 use model::File;
 use model::Input;
-use model::Outcome;
-use model::Reply;
 use model::SpecialCalculation;
-use numbers::core_in;
-use numbers::keep;
-use numbers::keep_error;
-use numbers::keep_passed;
-use numbers::memory_in;
-use numbers::port_in;
-use numbers::stands;
-ghost use mathlib.Core.Path.{_≡_};
 ghost use mathlib.Core.List.{List};
 ghost use Prim.Native.Nat.{ℕ};
 ghost use lib.ListN.{length};
 ghost use Rattle.model.specs.Step.{elapsed, setWord, setValue, pulses, store};
 ghost use Rattle.judge.specs.Judged.{configOf};
-ghost use Rattle.board.specs.Told.{ownedOf, Serves, Tells, Freshly};
+ghost use Rattle.events.specs.Kept.{ownedOf};
+ghost use Rattle.unit.specs.Fresh.{Freshly};
+ghost use Rattle.board.specs.Told.{Shows, Says};
 
 // How a stretch ended: how many characters of the buffer are to be sent, the outcome's number, and what the control outputs do.
 #[repr(C)]
@@ -47,11 +37,7 @@ pub extern "C" fn osturdam_fresh(
 )
     ensures { λ _. ⌜ Freshly (length (now (block .entry))) (now (kept .exit)) (now (words .exit)) (now (results .exit)) (now (fixed .exit)) (now (block .exit)) (now (counts .exit)) ⌝ }
 {
-    // Day 1 of the clock and the configure bit: every other number of a fresh unit is 0.
-    *kept = [0; 26];
-    kept[0] = 1;
-    kept[15] = 1;
-    unit::clear(words, results, fixed, block, counts);
+    unit::fresh(kept, words, results, fixed, block, counts);
 }
 
 #[no_mangle]
@@ -73,49 +59,34 @@ pub extern "C" fn osturdam_stretch<'a>(
     buffer: &mut [u8],
     s: &'a [u8],
 ) -> Turned
-    ensures { λ r. ⌜ Serves
+    ensures { λ r. ⌜ Shows
         (configOf unit length (now (inputs .entry)) (now (outputs .entry)) (now (calculations .entry)) (now (files .entry)) (now (values .entry)))
         (now (s .entry))
         (ownedOf (now (kept .entry)) (now (words .entry)) (now (results .entry)) (now (fixed .entry)) (now (block .entry)) (now (area .entry)) (now (counts .entry)))
         (ownedOf (now (kept .exit)) (now (words .exit)) (now (results .entry)) (now (fixed .exit)) (now (block .exit)) (now (area .exit)) (now (counts .exit)))
         (now (buffer .entry)) (now (buffer .exit)) r ⌝ }
 {
-    if stands(kept) {
-        let core = core_in(kept);
-        let memory = memory_in(kept);
-        let port = port_in(kept);
-        let turn = unit::stretch(
-            unit,
-            length,
-            inputs,
-            outputs,
-            calculations,
-            files,
-            values,
-            core,
-            memory,
-            port,
-            words,
-            results,
-            fixed,
-            block,
-            area,
-            counts,
-            buffer,
-            s,
-        );
-        let next = turn.core;
-        let remembered = turn.memory;
-        let line = turn.port;
-        keep(kept, next, remembered, line);
-        let outcome = turn.outcome;
-        let action = turn.action;
-        return shown(turn.sent, outcome, action);
-    }
-    if buffer.len() < Reply::LONGEST {
-        return shown(0, Outcome::BufferShort, Action::Rest);
-    }
-    shown(0, Outcome::NotConfigured, Action::Rest)
+    let turn = unit::stretch(
+        unit,
+        length,
+        inputs,
+        outputs,
+        calculations,
+        files,
+        values,
+        kept,
+        words,
+        results,
+        fixed,
+        block,
+        area,
+        counts,
+        buffer,
+        s,
+    );
+    let outcome = turn.outcome;
+    let action = turn.action;
+    shown(turn.sent, outcome, action)
 }
 
 #[no_mangle]
@@ -132,39 +103,27 @@ pub extern "C" fn osturdam_elapsed<'a>(
     counts: &'a [u8; 32],
     ms: u32,
 ) -> u8
-    ensures { λ r. ⌜ ((words results fixed area : List ℕ) → Tells
+    ensures { λ r. ⌜ ((words results fixed area : List ℕ) → Says
         (configOf unit length (now (inputs .entry)) (now (outputs .entry)) (now (calculations .entry)) (now (files .entry)) (now (values .entry)))
         (elapsed ms)
         (ownedOf (now (kept .entry)) words results fixed (now (block .entry)) area (now (counts .entry)))
         (ownedOf (now (kept .exit)) words results fixed (now (block .entry)) area (now (counts .entry)))
         r) ⌝ }
 {
-    if stands(kept) {
-        let core = core_in(kept);
-        let memory = memory_in(kept);
-        let port = port_in(kept);
-        let passed = events::elapsed(
-            unit,
-            length,
-            inputs,
-            outputs,
-            calculations,
-            files,
-            values,
-            core,
-            memory,
-            port,
-            block,
-            counts,
-            ms,
-        );
-        let next = passed.core;
-        let line = passed.port;
-        keep_passed(kept, next, line);
-        let outcome = passed.outcome;
-        return number(outcome);
-    }
-    unread()
+    let outcome = events::elapsed(
+        unit,
+        length,
+        inputs,
+        outputs,
+        calculations,
+        files,
+        values,
+        kept,
+        block,
+        counts,
+        ms,
+    );
+    number(outcome)
 }
 
 #[no_mangle]
@@ -183,37 +142,29 @@ pub extern "C" fn osturdam_set_word<'a>(
     input: u8,
     word: u16,
 ) -> u8
-    ensures { λ r. ⌜ ((results fixed area : List ℕ) → Tells
+    ensures { λ r. ⌜ ((results fixed area : List ℕ) → Says
         (configOf unit length (now (inputs .entry)) (now (outputs .entry)) (now (calculations .entry)) (now (files .entry)) (now (values .entry)))
         (setWord (record { 0 = input }) word)
         (ownedOf (now (kept .entry)) (now (words .entry)) results fixed (now (block .entry)) area (now (counts .entry)))
         (ownedOf (now (kept .entry)) (now (words .exit)) results fixed (now (block .entry)) area (now (counts .entry)))
         r) ⌝ }
 {
-    if stands(kept) {
-        let core = core_in(kept);
-        let memory = memory_in(kept);
-        let port = port_in(kept);
-        let outcome = events::set_word(
-            unit,
-            length,
-            inputs,
-            outputs,
-            calculations,
-            files,
-            values,
-            core,
-            memory,
-            port,
-            words,
-            block,
-            counts,
-            Input(input),
-            word,
-        );
-        return number(outcome);
-    }
-    unread()
+    let outcome = events::set_word(
+        unit,
+        length,
+        inputs,
+        outputs,
+        calculations,
+        files,
+        values,
+        kept,
+        words,
+        block,
+        counts,
+        Input(input),
+        word,
+    );
+    number(outcome)
 }
 
 #[no_mangle]
@@ -232,37 +183,29 @@ pub extern "C" fn osturdam_pulses<'a>(
     accumulator: u8,
     count: u16,
 ) -> u8
-    ensures { λ r. ⌜ ((results fixed area : List ℕ) → Tells
+    ensures { λ r. ⌜ ((results fixed area : List ℕ) → Says
         (configOf unit length (now (inputs .entry)) (now (outputs .entry)) (now (calculations .entry)) (now (files .entry)) (now (values .entry)))
         (pulses (record { 0 = accumulator }) count)
         (ownedOf (now (kept .entry)) (now (words .entry)) results fixed (now (block .entry)) area (now (counts .entry)))
         (ownedOf (now (kept .entry)) (now (words .exit)) results fixed (now (block .entry)) area (now (counts .entry)))
         r) ⌝ }
 {
-    if stands(kept) {
-        let core = core_in(kept);
-        let memory = memory_in(kept);
-        let port = port_in(kept);
-        let outcome = events::pulses(
-            unit,
-            length,
-            inputs,
-            outputs,
-            calculations,
-            files,
-            values,
-            core,
-            memory,
-            port,
-            words,
-            block,
-            counts,
-            Input(accumulator),
-            count,
-        );
-        return number(outcome);
-    }
-    unread()
+    let outcome = events::pulses(
+        unit,
+        length,
+        inputs,
+        outputs,
+        calculations,
+        files,
+        values,
+        kept,
+        words,
+        block,
+        counts,
+        Input(accumulator),
+        count,
+    );
+    number(outcome)
 }
 
 #[no_mangle]
@@ -281,37 +224,29 @@ pub extern "C" fn osturdam_set_value<'a>(
     calculation: u8,
     value: u32,
 ) -> u8
-    ensures { λ r. ⌜ ((words fixed area : List ℕ) → Tells
+    ensures { λ r. ⌜ ((words fixed area : List ℕ) → Says
         (configOf unit length (now (inputs .entry)) (now (outputs .entry)) (now (calculations .entry)) (now (files .entry)) (now (values .entry)))
         (setValue (record { 0 = calculation }) value)
         (ownedOf (now (kept .entry)) words (now (results .entry)) fixed (now (block .entry)) area (now (counts .entry)))
         (ownedOf (now (kept .entry)) words (now (results .exit)) fixed (now (block .entry)) area (now (counts .entry)))
         r) ⌝ }
 {
-    if stands(kept) {
-        let core = core_in(kept);
-        let memory = memory_in(kept);
-        let port = port_in(kept);
-        let outcome = events::set_value(
-            unit,
-            length,
-            inputs,
-            outputs,
-            calculations,
-            files,
-            values,
-            core,
-            memory,
-            port,
-            results,
-            block,
-            counts,
-            SpecialCalculation(calculation),
-            value,
-        );
-        return number(outcome);
-    }
-    unread()
+    let outcome = events::set_value(
+        unit,
+        length,
+        inputs,
+        outputs,
+        calculations,
+        files,
+        values,
+        kept,
+        results,
+        block,
+        counts,
+        SpecialCalculation(calculation),
+        value,
+    );
+    number(outcome)
 }
 
 #[no_mangle]
@@ -331,39 +266,28 @@ pub extern "C" fn osturdam_store_record<'a>(
     event: u8,
     given: &'a [u16],
 ) -> u8
-    ensures { λ r. ⌜ ((words results fixed : List ℕ) → Tells
+    ensures { λ r. ⌜ ((words results fixed : List ℕ) → Says
         (configOf unit length (now (inputs .entry)) (now (outputs .entry)) (now (calculations .entry)) (now (files .entry)) (now (values .entry)))
         (store (record { 0 = file }) event (now (given .entry)))
         (ownedOf (now (kept .entry)) words results fixed (now (block .entry)) (now (area .entry)) (now (counts .entry)))
         (ownedOf (now (kept .exit)) words results fixed (now (block .entry)) (now (area .exit)) (now (counts .exit)))
         r) ⌝ }
 {
-    if stands(kept) {
-        let core = core_in(kept);
-        let memory = memory_in(kept);
-        let port = port_in(kept);
-        let storage = events::store_record(
-            unit,
-            length,
-            inputs,
-            outputs,
-            calculations,
-            files,
-            values,
-            core,
-            memory,
-            port,
-            block,
-            area,
-            counts,
-            File(file),
-            event,
-            given,
-        );
-        let next = storage.core;
-        keep_error(kept, next.error);
-        let answer = storage.answer;
-        return answer_number(answer);
-    }
-    unread()
+    let answer = events::store_record(
+        unit,
+        length,
+        inputs,
+        outputs,
+        calculations,
+        files,
+        values,
+        kept,
+        block,
+        area,
+        counts,
+        File(file),
+        event,
+        given,
+    );
+    answer_number(answer)
 }

@@ -1,11 +1,12 @@
 -- A unit judged by what is lent: its tables, and in place of its records how many each file holds.
 use Prim.Native.Nat.{ℕ}
 use mathlib.Core.List.{List, [], map}
-use mathlib.Core.Bool.{Bool}
+use mathlib.Core.Bool.{Bool, _&&_}
 use lib.ListN.{replicate}
 use Rattle.model.specs.Config.{Config}
 use Rattle.model.specs.State.{Files, State}
 use Rattle.model.specs.Fits.{fits}
+use Rattle.numbers.specs.Numbers.{coreIn, memoryIn, portIn, readable}
 use Rattle.model.specs.declared.Core.{Core}
 use Rattle.model.specs.declared.Memory.{Memory}
 use Rattle.model.specs.declared.Port.{Port}
@@ -34,3 +35,7 @@ keptBy lent counts core memory port =
 -- fits, of a unit of which only the length of the block and the numbers of records are at hand
 unfoldable pub fitsBy : Config → ℕ → List ℕ → Core → Memory → Port → Bool
 fitsBy c lent counts core memory port = fits c (keptBy lent counts core memory port)
+
+-- the same of kept numbers: they are those of a unit, which fits
+unfoldable pub fitsIn : Config → ℕ → List ℕ → List ℕ → Bool
+fitsIn c lent counts ks = readable ks && fitsBy c lent counts (coreIn ks) (memoryIn ks) (portIn ks)

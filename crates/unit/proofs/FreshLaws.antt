@@ -11,6 +11,23 @@ use Rattle.model.specs.Config.{Config}
 use Rattle.model.specs.State.{freshCore, freshAreas, freshHistory, freshPort, freshOf}
 use Rattle.model.specs.declared.Memory.the-variants.{Nothing}
 use Rattle.history.specs.Layout.{held, recordsIn, each, filesIn}
+use Rattle.numbers.specs.Numbers.{
+  bitOf,
+  holdNumbers,
+  writeNumbers,
+  memoryNumbers,
+  markNumber,
+  numbersOf,
+  holdIn,
+  writeIn,
+  replyIn,
+  markIn,
+  clockIn,
+  coreIn,
+  memoryIn,
+  portIn,
+  Written,
+}
 use Rattle.events.specs.Kept.{keptOf, stateOf}
 use Rattle.unit.specs.Fresh.{Cleared}
 
@@ -57,3 +74,7 @@ pub fresh-is : (c : Config) {ws rs fx bl ns : List ℕ} (area : List ℕ) → Cl
     → stateOf c (keptOf freshCore Nothing freshPort ws rs fx bl area ns) ≡ freshOf c
 unfolding freshOf freshAreas freshHistory
 fresh-is c area w = rw (w .words, w .results, w .fixed, w .block, w .counts, files-none (c .values) area)
+
+pub fresh-written : Written freshCore Nothing freshPort (set (set (replicate 26 0) 0 1) 15 1)
+unfolding freshCore freshPort numbersOf coreIn memoryIn portIn clockIn holdNumbers writeNumbers memoryNumbers markNumber bitOf holdIn writeIn replyIn markIn
+fresh-written = record { plain = refl; means = record { core = refl; memory = refl; port = refl } }

@@ -2,15 +2,21 @@
 use mathlib.Core.Path.{_≡_}
 use Prim.Native.Nat.{ℕ, _≤_}
 use mathlib.Core.List.{List}
+use mathlib.Core.Bool.{true, false, cond}
 use lib.ListN.{length}
+use lib.Dec.{ltb}
 use Rattle.chars.specs.Put.{put}
+use Rattle.model.specs.Limits.{longestReply}
 use Rattle.model.specs.Config.{Config}
 use Rattle.model.specs.Step.{stretch}
 use Rattle.model.specs.Run.{resultOf, nextOf}
+use Rattle.model.specs.declared.Outcome.the-variants.{NotConfigured, BufferShort}
 use Rattle.model.specs.declared.Answer.the-variants.{Ended}
+use Rattle.model.specs.declared.Action.the-variants.{Rest}
+use Rattle.numbers.specs.Numbers.{readable}
 use Rattle.history.specs.Change.{Changed}
 use Rattle.unit.specs.declared.line.Turn.{Turn}
-use Rattle.events.specs.Kept.{Kept, stateOf}
+use Rattle.events.specs.Kept.{Kept, stateOf, Owned, keptIn}
 use Rattle.events.specs.Changes.{changeOf}
 
 -- a stretch that found the unit as k left it as l: what it showed is the definition's result, the buffer holds the reply and is
@@ -23,3 +29,19 @@ pub record Turns (c : Config) (s : List ℕ) (k l : Kept) (entry exit : List ℕ
   pub written : exit ≡ put entry 0 (resultOf c (stateOf c k) (stretch (length entry) s) .reply)
   pub next : stateOf c l ≡ nextOf c (stateOf c k) (stretch (length entry) s)
   pub changed : Changed (changeOf c (stateOf c k) (stretch (length entry) s)) (k .area) (k .counts) (l .area) (l .counts)
+
+-- the same of a unit in numbers, which stand afterwards
+pub record Served (c : Config) (s : List ℕ) (x y : Owned) (entry exit : List ℕ) (r : Turn) : Type 0 where
+  pub turns : Turns c s (keptIn x) (keptIn y) entry exit r
+  pub stand : readable (y .numbers) ≡ true
+
+-- 18, then 17: nothing is changed, sent or operated
+pub record Away (x y : Owned) (entry exit : List ℕ) (r : Turn) : Type 0 where
+  pub shown : r ≡ record { outcome = cond (ltb (length entry) longestReply) BufferShort NotConfigured; action = Rest; sent = 0 }
+  pub written : exit ≡ entry
+  pub owned : y ≡ x
+
+-- a call found x and left y: served where the numbers are those of a unit, else turned away
+pub record Serves (c : Config) (s : List ℕ) (x y : Owned) (entry exit : List ℕ) (r : Turn) : Type 0 where
+  pub read : readable (x .numbers) ≡ true → Served c s x y entry exit r
+  pub unread : readable (x .numbers) ≡ false → Away x y entry exit r

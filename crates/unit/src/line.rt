@@ -9,6 +9,10 @@ use model::Memory;
 use model::Outcome;
 use model::Port;
 use model::Reply;
+use numbers::core_in;
+use numbers::keep;
+use numbers::memory_in;
+use numbers::port_in;
 use replies::port_after;
 use serving::served;
 ghost use mathlib.Core.Path.{_≡_};
@@ -23,20 +27,18 @@ ghost use Rattle.model.specs.Fits.{historyFits};
 ghost use Rattle.model.specs.Step.{judged};
 ghost use Rattle.history.specs.Layout.{filesIn};
 ghost use Rattle.judge.specs.Judged.{configOf};
-ghost use Rattle.events.specs.Kept.{keptOf, areasOf, innerOf};
+ghost use Rattle.numbers.specs.Numbers.{Written};
+ghost use Rattle.events.specs.Kept.{areasOf, innerOf, ownedOf};
 ghost use Rattle.events.specs.Changes.{changeHeard};
 ghost use Rattle.replies.specs.Ends.{portBy};
 ghost use Rattle.serving.specs.Served.{MakesIn};
-ghost use Rattle.unit.specs.Turn.{Turns};
+ghost use Rattle.unit.specs.Turn.{Serves};
 
-// How a stretch ended: the outcome, the output action, how many characters of the buffer are to be sent, and what is kept now.
+// How a stretch ended: the outcome, the output action, and how many characters of the buffer are to be sent.
 pub struct Turn {
     pub outcome: Outcome,
     pub action: Action,
     pub sent: usize,
-    pub core: Core,
-    pub memory: Memory,
-    pub port: Port,
 }
 
 // A frame to all units.
@@ -111,42 +113,36 @@ fn judged<'a>(
 }
 
 // Nothing is changed, sent or operated.
-fn away(outcome: Outcome, core: Core, memory: Memory, port: Port) -> Turn
-    ensures { λ r. ⌜ r ≡ record { outcome = outcome; action = Action.Rest; sent = 0; core = core; memory = memory; port = port } ⌝ }
+fn away(outcome: Outcome) -> Turn
+    ensures { λ r. ⌜ r ≡ record { outcome = outcome; action = Action.Rest; sent = 0 } ⌝ }
 {
     Turn {
         outcome: outcome,
         action: Action::Rest,
         sent: 0,
-        core: core,
-        memory: memory,
-        port: port,
     }
 }
 
-// What was made, with the port after it.
-fn turned(made: Made, port: Port, s: &[u8]) -> Turn
-    ensures { λ r. ⌜ r ≡ record {
-      outcome = made .outcome;
-      action = made .action;
-      sent = made .sent;
-      core = made .core;
-      memory = made .memory;
-      port = portBy port (now (s .entry)) (made .outcome);
-    } ⌝ }
+fn turned(made: Made) -> Turn
+    ensures { λ r. ⌜ r ≡ record { outcome = made .outcome; action = made .action; sent = made .sent } ⌝ }
 {
     let outcome = made.outcome;
     let action = made.action;
-    let core = made.core;
-    let memory = made.memory;
     Turn {
         outcome: outcome,
         action: action,
         sent: made.sent,
-        core: core,
-        memory: memory,
-        port: port_after(port, s, outcome),
     }
+}
+
+// What was made is kept, with the port after it.
+fn leave(kept: &mut [u16; 26], made: Made, port: Port, s: &[u8])
+    ensures { λ _. ⌜ Written (made .core) (made .memory) (portBy port (now (s .entry)) (made .outcome)) (now (kept .exit)) ⌝ }
+{
+    let outcome = made.outcome;
+    let core = made.core;
+    let memory = made.memory;
+    keep(kept, core, memory, port_after(port, s, outcome));
 }
 
 pub fn stretch<'a>(
@@ -157,9 +153,7 @@ pub fn stretch<'a>(
     calculations: &'a [u8; 256],
     files: &'a [u8; 32],
     values: &'a [u8; 32],
-    core: Core,
-    memory: Memory,
-    port: Port,
+    kept: &mut [u16; 26],
     words: &mut [u16; 256],
     results: &'a [u32; 128],
     fixed: &mut [u8; 528],
@@ -169,13 +163,15 @@ pub fn stretch<'a>(
     buffer: &mut [u8],
     s: &'a [u8],
 ) -> Turn
-    ensures { λ r. ⌜ Turns (configOf unit length (now (inputs .entry)) (now (outputs .entry)) (now (calculations .entry)) (now (files .entry)) (now (values .entry))) (now (s .entry))
-        (keptOf core memory port (now (words .entry)) (now (results .entry)) (now (fixed .entry)) (now (block .entry)) (now (area .entry)) (now (counts .entry)))
-        (keptOf (r .core) (r .memory) (r .port) (now (words .exit)) (now (results .entry)) (now (fixed .exit)) (now (block .exit)) (now (area .exit)) (now (counts .exit)))
+    ensures { λ r. ⌜ Serves
+        (configOf unit length (now (inputs .entry)) (now (outputs .entry)) (now (calculations .entry)) (now (files .entry)) (now (values .entry)))
+        (now (s .entry))
+        (ownedOf (now (kept .entry)) (now (words .entry)) (now (results .entry)) (now (fixed .entry)) (now (block .entry)) (now (area .entry)) (now (counts .entry)))
+        (ownedOf (now (kept .exit)) (now (words .exit)) (now (results .entry)) (now (fixed .exit)) (now (block .exit)) (now (area .exit)) (now (counts .exit)))
         (now (buffer .entry)) (now (buffer .exit)) r ⌝ }
 {
     if buffer.len() < Reply::LONGEST {
-        return away(Outcome::BufferShort, core, memory, port);
+        return away(Outcome::BufferShort);
     }
     if judge::fits(
         unit,
@@ -185,12 +181,13 @@ pub fn stretch<'a>(
         calculations,
         files,
         values,
-        core,
-        memory,
-        port,
+        kept,
         block.len(),
         counts,
     ) {
+        let core = core_in(kept);
+        let memory = memory_in(kept);
+        let port = port_in(kept);
         let made = judged(
             unit,
             inputs,
@@ -210,7 +207,8 @@ pub fn stretch<'a>(
             buffer,
             s,
         );
-        return turned(made, port, s);
+        leave(kept, made, port, s);
+        return turned(made);
     }
-    away(Outcome::NotConfigured, core, memory, port)
+    away(Outcome::NotConfigured)
 }

@@ -8,15 +8,12 @@ use Rattle.bench.proofs.run.Statement.{statement}
 use Rattle.bench.proofs.run.Tie as tie
 
 abbrev Inv-loop : tie.InvT-loop
-Inv-loop inputs words₀ results fixed₀ area₀ counts₀ read₀ line₀ shown₀ state₀ turns₀ words fixed area counts read line shown state turns =
-    Flows (state .flow) × (state .flow .number + turns ≤ 18446744073709551615) × (length read ≡ 65536) × (length line ≡ 2001) × (length shown ≡ 65536)
+Inv-loop inputs kept₀ words₀ results fixed₀ area₀ counts₀ read₀ line₀ shown₀ flow₀ turns₀ kept words fixed area counts read line shown flow turns =
+    Flows flow × (flow .number + turns ≤ 18446744073709551615) × (length read ≡ 65536) × (length line ≡ 2001) × (length shown ≡ 65536)
 
 abbrev μ-loop : tie.MeasureT-loop
-μ-loop inputs words₀ results fixed₀ area₀ counts₀ read₀ line₀ shown₀ state₀ turns₀ words fixed area counts read line shown state turns =
+μ-loop inputs kept₀ words₀ results fixed₀ area₀ counts₀ read₀ line₀ shown₀ flow₀ turns₀ kept words fixed area counts read line shown flow turns =
     turns
-
-fresh-requires : tie.Need-fresh-requires Inv-loop μ-loop
-fresh-requires c κs = search needs
 
 start-requires : tie.Need-start-requires Inv-loop μ-loop
 start-requires c κs = search needs
@@ -66,7 +63,6 @@ run-spec =
     (tie.spec
     Inv-loop
     μ-loop
-    fresh-requires
     start-requires
     loop-holds
     slice-aggregate-turn

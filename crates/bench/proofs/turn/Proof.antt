@@ -22,7 +22,7 @@ same-length-3 c = search needs
 returns : tie.Need-returns
 returns c =
     let a = c .before .before .answer .ensures in
-    (a .0, omega (arith, a .1, c .before .before .before .before .before .before .before .before .before .before .before .before .before .before .step .ensures .1))
+    (a .0, omega (arith, a .1, c .before .before .before .before .before .before .before .before .before .before .before .before .before .before .before .step .ensures .1))
 
 same-length-4 : tie.Need-same-length-4
 same-length-4 c = search needs

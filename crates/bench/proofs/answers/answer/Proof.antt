@@ -27,7 +27,7 @@ slice-aggregate-hear-2 c = search needs
 
 hear-requires : tie.Need-hear-requires
 hear-requires c κs =
-    let h = stretch-long _ _ (sym (c .before .before .before .before .before .before .before .before .before .before .read-line .ensures .0) ∙ c .before .before .before .before .before .before .before .said .given .1) in
+    let h = stretch-long _ _ (sym (c .before .before .before .before .before .before .before .before .before .before .before .read-line .ensures .0) ∙ c .before .before .before .before .before .before .before .before .said .given .1) in
     omega (arith, h .1)
 
 slice-aggregate-show : tie.Need-slice-aggregate-show
@@ -36,7 +36,7 @@ slice-aggregate-show c = search needs
 show-requires : tie.Need-show-requires
 show-requires c κs =
     let p = c .before .before .before .before .before .before .before .before .before .before .before .before .before .before .before .before .before .before .before .before .pre in
-    (p .0, p .1, p .3, omega (arith, c .before .before .before .before .hear .ensures))
+    (p .0, p .1, p .3, omega (arith, c .before .before .before .hear .ensures))
 
 enum-known-said-2 : tie.Need-enum-known-said-2
 enum-known-said-2 c = search needs

@@ -2,6 +2,7 @@
 use mathlib.Core.Path.{sym}
 use lib.Seq.{length-take-le}
 use native.Mathlib.Omega.{arith}
+use Rattle.unit.proofs.TurnLaws.{sent-inside}
 use borrow.Author.Needs.{needs}
 use Rattle.bench.proofs.answers.hear.Statement.{statement}
 use Rattle.bench.proofs.answers.hear.Tie as tie
@@ -22,7 +23,7 @@ same-length : tie.Need-same-length
 same-length c = search needs
 
 returns : tie.Need-returns
-returns c = search needs
+returns c = sent-inside _ _ _ _ (c .before .before .before .before .stretch .ensures)
 
 pub hear-spec : {M : Type 1} → statement M
 hear-spec =
