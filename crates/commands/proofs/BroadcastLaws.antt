@@ -10,7 +10,7 @@ use Rattle.chars.proofs.PutLaws.{put-none}
 use Rattle.model.specs.Frame.{Request}
 use Rattle.model.specs.Outcome.{numberOf}
 use Rattle.model.specs.Config.{Config}
-use Rattle.model.specs.State.{Areas, Files, History, Inner}
+use Rattle.model.specs.State.{Areas, Files, Inner}
 use Rattle.model.specs.Scan.{Fills}
 use Rattle.model.specs.Inputs as points
 use Rattle.model.specs.Clock.{Timed, setTimeOf}
@@ -24,14 +24,13 @@ use Rattle.model.specs.declared.Filled.{Filled}
 use Rattle.model.specs.declared.Core.{Core}
 use Rattle.model.specs.declared.Memory.{Memory}
 use Rattle.model.specs.declared.Mark.{Mark}
+use Rattle.model.specs.declared.Port.{Port}
+use Rattle.numbers.specs.Numbers.{Written}
 use Rattle.points.specs.Answer.{replyOf}
 use Rattle.events.specs.Kept.{innerOf}
 use Rattle.commands.specs.declared.Step.{Step}
 use Rattle.commands.specs.declared.Made.{Made as MadeOf}
 use Rattle.commands.specs.Acts.{Stirs, Makes}
-
-pub inner-same : {k l : Core} {a b : Areas} {g h : History} → k ≡ l → a ≡ b → g ≡ h → _≡_ {A = Inner} (record { core = k; areas = a; history = g }) (record { core = l; areas = b; history = h })
-inner-same p q r = λ j. record { core = p j; areas = q j; history = r j }
 
 module _ (c : Config) (k : Core) (a : Areas) (q : Request) where
   pub broadcast-not : (q .function ≡ 0x20 → ⊥) → broadcastOf c k a q ≡ refused Unknown k a
@@ -51,27 +50,28 @@ module _ (c : Config) (k : Core) (a : Areas) (q : Request) where
     unfolding broadcastOf
     broadcast-other m n = simp (f, ne-eqb _ _ m, ne-eqb _ _ n)
 
-module _ (k : Core) (a : Areas) (w : Memory) {p : StepOf} {b : Areas} {r : Step} where
-  pub stirs-reset : {x : points.Changed} {ws entry exit : List ℕ} (f : Filled) → p ≡ changed k a x → Fills entry exit (replyOf x) f → ws ≡ x .area
-      → r ≡ record { outcome = f .outcome; action = Rest; count = f .count; core = k; memory = w } → b ≡ withWords a ws → Stirs p b r
+module _ (k : Core) (a : Areas) {w : Memory} {p : Port} {ls : List ℕ} {x : StepOf} {b : Areas} {r : Step} where
+  pub stirs-reset : {y : points.Changed} {ws entry exit : List ℕ} (f : Filled) → x ≡ changed k a y → Fills entry exit (replyOf y) f → ws ≡ y .area
+      → r ≡ record { outcome = f .outcome; action = Rest; count = f .count } → Written k w p ls → b ≡ withWords a ws → Stirs x b w p ls (r .outcome)
   unfolding changed
-  stirs-reset f z v u e y = rw (z, e, y) (record { ended = v .ended; core = refl; areas = ap (withWords a) u })
+  stirs-reset f z v u e n y = rw (z, e, y) (record { ended = v .ended; kept = n; areas = ap (withWords a) u })
 
-  pub stirs-time : {x : Timed} (o : Outcome) → p ≡ timed k a x → o ≡ x .outcome
-      → r ≡ record { outcome = o; action = Rest; count = 0; core = withClock k (x .clock); memory = w } → b ≡ a → Stirs p b r
+  pub stirs-time : {t : Timed} (o : Outcome) → x ≡ timed k a t → o ≡ t .outcome
+      → r ≡ record { outcome = o; action = Rest; count = 0 } → Written (withClock k (t .clock)) w p ls → b ≡ a → Stirs x b w p ls (r .outcome)
   unfolding timed
-  stirs-time o z v e y = rw (z, e, y) (record { ended = v; core = refl; areas = refl })
+  stirs-time o z v e n y = rw (z, e, y) (record { ended = v; kept = n; areas = refl })
 
-  pub stirs-refused : p ≡ refused Unknown k a → r ≡ record { outcome = Unknown; action = Rest; count = 0; core = k; memory = w } → b ≡ a → Stirs p b r
+  pub stirs-refused : x ≡ refused Unknown k a → r ≡ record { outcome = Unknown; action = Rest; count = 0 } → Written k w p ls → b ≡ a
+      → Stirs x b w p ls (r .outcome)
   unfolding refused
-  stirs-refused z e y = rw (z, e, y) (record { ended = refl; core = refl; areas = refl })
+  stirs-refused z e n y = rw (z, e, y) (record { ended = refl; kept = n; areas = refl })
 
-pub makes-broadcast : (k : Core) (a : Areas) (w : Memory) (fs : Files) (mark : Mark) (entry : List ℕ) {p : StepOf} {b : Areas} (r : Step) {x : MadeOf} (o : Outcome)
-    → Stirs p b r → o ≡ cond (eqb (numberOf (r .outcome)) 0) BroadcastDone BroadcastRefused
-    → x ≡ record { outcome = o; action = Rest; sent = 0; core = withBroadcast (r .core) true; memory = w }
-    → Makes (broadcastMade (innerOf k a w fs) p) mark (innerOf (x .core) b (x .memory) fs) entry entry x
+pub makes-broadcast : (k : Core) (a : Areas) (w : Memory) (p : Port) (fs : Files) (mark : Mark) (entry : List ℕ) {x : StepOf} {b : Areas} {ks ls : List ℕ} {n : Outcome} {r : MadeOf} (o : Outcome)
+    → Stirs x b w p ks n → o ≡ cond (eqb (numberOf n) 0) BroadcastDone BroadcastRefused
+    → r ≡ record { outcome = o; action = Rest; sent = 0 } → Written (withBroadcast (x .core) true) w p ls
+    → Makes (broadcastMade (innerOf k a w fs) x) mark b fs p ls entry entry r
 unfolding broadcastMade quiet sentChars
-makes-broadcast k a w fs mark entry r o s z e =
+makes-broadcast k a w p fs mark entry o s z e l =
     rw e
     (record {
       answered = ap Ended (z ∙ rw (s .ended));
@@ -79,12 +79,14 @@ makes-broadcast k a w fs mark entry r o s z e =
       counted = refl;
       inside = omega arith;
       written = sym (put-none entry 0);
-      inner = inner-same (ap (λ (l : Core). withBroadcast l true) (s .core)) (s .areas) refl;
+      kept = l;
+      areas = s .areas;
+      files = refl;
     })
 
-pub makes-quiet : (i : Inner) (mark : Mark) (entry : List ℕ) {x : MadeOf} (o : Outcome)
-    → x ≡ record { outcome = o; action = Rest; sent = 0; core = i .core; memory = i .history .memory }
-    → Makes (quiet (Ended o) i) mark (innerOf (x .core) (i .areas) (x .memory) (i .history .files)) entry entry x
+pub makes-quiet : (i : Inner) (mark : Mark) (entry : List ℕ) {p : Port} {ls : List ℕ} {r : MadeOf} (o : Outcome)
+    → r ≡ record { outcome = o; action = Rest; sent = 0 } → Written (i .core) (i .history .memory) p ls
+    → Makes (quiet (Ended o) i) mark (i .areas) (i .history .files) p ls entry entry r
 unfolding quiet sentChars
-makes-quiet i mark entry o e =
-    rw e (record { answered = refl; acted = refl; counted = refl; inside = omega arith; written = sym (put-none entry 0); inner = refl })
+makes-quiet i mark entry o e k =
+    rw e (record { answered = refl; acted = refl; counted = refl; inside = omega arith; written = sym (put-none entry 0); kept = k; areas = refl; files = refl })

@@ -44,6 +44,8 @@ use Rattle.blocks.specs.declared.Written.{Written}
 use Rattle.blocks.specs.declared.Executed.{Executed}
 use Rattle.history.specs.Change.{stays}
 use Rattle.events.specs.Changes.{Stepped, alone, initialStep, internalStep, returnStep}
+use Rattle.model.specs.declared.Port.{Port}
+use Rattle.numbers.specs.Numbers.{Written as Kept}
 use Rattle.commands.specs.declared.Step.{Step}
 use Rattle.commands.specs.Acts.{Tame, Acts}
 use Rattle.commands.proofs.TameLaws.{mute}
@@ -103,54 +105,49 @@ module _ (i : Inner) (q : Request) where
 
 -- ---- what a function hands back
 
-module _ (i : Inner) {m : Stepped} {a : Areas} {entry exit : List ℕ} {r : Step} where
+module _ (i : Inner) {m : Stepped} {a : Areas} {p : Port} {ls entry exit : List ℕ} {r : Step} where
   pub acts-scan : {x : Scan} (f : Filled) → Tame (x .outcome) (x .chars) → m ≡ alone i (scanned (i .core) (i .areas) x) → Fills entry exit x f
-      → r ≡ record { outcome = f .outcome; action = Rest; count = f .count; core = i .core; memory = i .history .memory } → a ≡ i .areas
-      → Acts m a (i .history .files) entry exit r
+      → r ≡ record { outcome = f .outcome; action = Rest; count = f .count } → Kept (i .core) (i .history .memory) p ls → a ≡ i .areas
+      → Acts m a (i .history .files) p ls entry exit r
   unfolding alone scanned
-  acts-scan f t z w e y =
-      rw (z, e, y) (record { ended = w .ended; acted = refl; counted = w .counted; written = w .written; core = refl; areas = refl; history = refl; tame = t })
+  acts-scan f t z w e k y =
+      rw (z, e, y) (record { ended = w .ended; acted = refl; counted = w .counted; written = w .written; kept = k; areas = refl; files = refl; tame = t })
 
   pub acts-refused : {o : Outcome} → m ≡ alone i (refused o (i .core) (i .areas)) → exit ≡ entry
-      → r ≡ record { outcome = o; action = Rest; count = 0; core = i .core; memory = i .history .memory } → a ≡ i .areas
-      → Acts m a (i .history .files) entry exit r
+      → r ≡ record { outcome = o; action = Rest; count = 0 } → Kept (i .core) (i .history .memory) p ls → a ≡ i .areas
+      → Acts m a (i .history .files) p ls entry exit r
   unfolding alone refused
-  acts-refused z x e y =
+  acts-refused z x e k y =
       let t = mute in
-      rw (z, e, y, x) (record { ended = refl; acted = refl; counted = refl; written = sym (put-none entry replyHead); core = refl; areas = refl; history = refl; tame = t })
+      rw (z, e, y, x) (record { ended = refl; acted = refl; counted = refl; written = sym (put-none entry replyHead); kept = k; areas = refl; files = refl; tame = t })
 
   -- 20h/11h changes the words
   pub acts-changed : {x : points.Changed} {ws : List ℕ} (f : Filled) → Tame (x .outcome) (x .chars) → m ≡ alone i (changed (i .core) (i .areas) x) → Fills entry exit (replyOf x) f → ws ≡ x .area
-      → r ≡ record { outcome = f .outcome; action = Rest; count = f .count; core = i .core; memory = i .history .memory } → a ≡ withWords (i .areas) ws
-      → Acts m a (i .history .files) entry exit r
+      → r ≡ record { outcome = f .outcome; action = Rest; count = f .count } → Kept (i .core) (i .history .memory) p ls → a ≡ withWords (i .areas) ws
+      → Acts m a (i .history .files) p ls entry exit r
   unfolding alone changed
-  acts-changed f t z w u e y =
+  acts-changed f t z w u e k y =
       rw (z, e, y)
-      (record { ended = w .ended; acted = refl; counted = w .counted; written = w .written; core = refl; areas = ap (withWords (i .areas)) u; history = refl; tame = t })
+      (record { ended = w .ended; acted = refl; counted = w .counted; written = w .written; kept = k; areas = ap (withWords (i .areas)) u; files = refl; tame = t })
 
   -- 20h/30h
   pub acts-written : {x : blocks.Written} (f : Written) → m ≡ alone i (written (i .core) (i .areas) x) → WritesAs x f → exit ≡ entry
-      → r ≡ record { outcome = f .outcome; action = Rest; count = 0; core = withWrite (i .core) (f .write); memory = i .history .memory } → a ≡ i .areas
-      → Acts m a (i .history .files) entry exit r
+      → r ≡ record { outcome = f .outcome; action = Rest; count = 0 } → Kept (withWrite (i .core) (f .write)) (i .history .memory) p ls → a ≡ i .areas
+      → Acts m a (i .history .files) p ls entry exit r
   unfolding alone written
-  acts-written f z w x e y =
+  acts-written f z w x e k y =
       let t = mute in
       rw (z, e, y, x)
-      (record { ended = w .ended; acted = refl; counted = refl; written = sym (put-none entry replyHead); core = ap (withWrite (i .core)) (w .waiting); areas = refl; history = refl; tame = t })
+      (record { ended = w .ended; acted = refl; counted = refl; written = sym (put-none entry replyHead); kept = rw (← (w .waiting)) k; areas = refl; files = refl; tame = t })
 
   -- 20h/31h
   pub acts-executed : {x : blocks.Executed} {fx bl : List ℕ} (f : Executed) → m ≡ alone i (executed (i .core) (i .areas) x) → ExecutesAs x fx bl f → exit ≡ entry
-      → r ≡ record {
-        outcome = f .outcome;
-        action = Rest;
-        count = 0;
-        core = withError (withConfigure (i .core) (cond (f .configures) false (i .core .configure))) (cond (f .clears) false (i .core .error));
-        memory = i .history .memory;
-      }
+      → r ≡ record { outcome = f .outcome; action = Rest; count = 0 }
+      → Kept (withError (withConfigure (i .core) (cond (f .configures) false (i .core .configure))) (cond (f .clears) false (i .core .error))) (i .history .memory) p ls
       → a ≡ record { words = i .areas .words; values = i .areas .values; fixed = fx; block = bl }
-      → Acts m a (i .history .files) entry exit r
+      → Acts m a (i .history .files) p ls entry exit r
   unfolding alone executed
-  acts-executed f z w x e y =
+  acts-executed f z w x e k y =
       let t = mute in
       rw (z, e, y, x)
       (record {
@@ -158,34 +155,33 @@ module _ (i : Inner) {m : Stepped} {a : Areas} {entry exit : List ℕ} {r : Step
         acted = refl;
         counted = refl;
         written = sym (put-none entry replyHead);
-        core = rw (w .configured, w .cleared);
+        kept = rw (w .configured, w .cleared) at k;
         areas = rw (w .fixed-left, w .block-left);
-        history = refl;
+        files = refl;
         tame = t;
       })
 
   -- 20h/38h
   pub acts-timed : {x : Timed} {o : Outcome} → m ≡ alone i (timed (i .core) (i .areas) x) → o ≡ x .outcome → exit ≡ entry
-      → r ≡ record { outcome = o; action = Rest; count = 0; core = withClock (i .core) (x .clock); memory = i .history .memory } → a ≡ i .areas
-      → Acts m a (i .history .files) entry exit r
+      → r ≡ record { outcome = o; action = Rest; count = 0 } → Kept (withClock (i .core) (x .clock)) (i .history .memory) p ls → a ≡ i .areas
+      → Acts m a (i .history .files) p ls entry exit r
   unfolding alone timed
-  acts-timed z w x e y =
+  acts-timed z w x e k y =
       let t = mute in
       rw (z, e, y, x)
-      (record { ended = w; acted = refl; counted = refl; written = sym (put-none entry replyHead); core = refl; areas = refl; history = refl; tame = t })
+      (record { ended = w; acted = refl; counted = refl; written = sym (put-none entry replyHead); kept = k; areas = refl; files = refl; tame = t })
 
   -- 20h/00
   pub acts-initial : (q : Request) → m ≡ initialStep i q → exit ≡ entry
-      → r ≡ cond (eqb (length (q .body)) 0)
-      (record { outcome = Done; action = Rest; count = 0; core = restarted (i .core); memory = Nothing })
-      (record { outcome = WrongCount; action = Rest; count = 0; core = i .core; memory = i .history .memory })
-      → a ≡ i .areas → Acts m a (i .history .files) entry exit r
+      → r ≡ record { outcome = cond (eqb (length (q .body)) 0) Done WrongCount; action = Rest; count = 0 }
+      → Kept (cond (eqb (length (q .body)) 0) (restarted (i .core)) (i .core)) (cond (eqb (length (q .body)) 0) Nothing (i .history .memory)) p ls
+      → a ≡ i .areas → Acts m a (i .history .files) p ls entry exit r
   unfolding initialStep alone refused counts forgotten
-  acts-initial q z x e y =
+  acts-initial q z x e k y =
       by-bool (eqb (length (q .body)) 0)
       (λ b.
       rw (z, e, y, x, b)
-      (record { ended = refl; acted = refl; counted = refl; written = sym (put-none entry replyHead); core = refl; areas = refl; history = refl; tame = mute }))
+      (record { ended = refl; acted = refl; counted = refl; written = sym (put-none entry replyHead); kept = rw b at k; areas = refl; files = refl; tame = mute }))
       (λ b.
       rw (z, e, y, x, b)
-      (record { ended = refl; acted = refl; counted = refl; written = sym (put-none entry replyHead); core = refl; areas = refl; history = refl; tame = mute }))
+      (record { ended = refl; acted = refl; counted = refl; written = sym (put-none entry replyHead); kept = rw b at k; areas = refl; files = refl; tame = mute }))

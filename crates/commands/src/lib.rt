@@ -1,7 +1,6 @@
 // Functions 20h and 28h by command, and a broadcast, which knows two commands of 20h.
 use frames::outcomes::number;
 use model::Action;
-use model::Core;
 use model::Filled;
 use model::Frame;
 use model::Hold;
@@ -9,6 +8,17 @@ use model::Mark;
 use model::Memory;
 use model::Outcome;
 use model::Pending;
+use numbers::clock_in;
+use numbers::configure_in;
+use numbers::error_in;
+use numbers::keep_broadcast;
+use numbers::keep_clock;
+use numbers::keep_configure;
+use numbers::keep_error;
+use numbers::keep_hold;
+use numbers::keep_memory;
+use numbers::keep_write;
+use numbers::write_kept;
 ghost use mathlib.Core.Path.{_≡_};
 ghost use mathlib.Core.List.{List};
 ghost use mathlib.Core.Bool.{true, false, cond};
@@ -19,7 +29,8 @@ ghost use Rattle.model.specs.Frame.{asked};
 ghost use Rattle.model.specs.Config.{Config};
 ghost use Rattle.model.specs.State.{Files};
 ghost use Rattle.model.specs.Clock.{clockFits};
-ghost use Rattle.model.specs.Step.{restarted, broadcastMade, broadcastOf, withClock, withWrite, withBroadcast, withConfigure, withError};
+ghost use Rattle.model.specs.Step.{restarted, broadcastMade, broadcastOf, withClock, withWrite, withConfigure, withError};
+ghost use Rattle.numbers.specs.Numbers.{coreIn, memoryIn, portIn, readable, Written};
 ghost use Rattle.events.specs.Kept.{areasOf, innerOf};
 ghost use Rattle.events.specs.Changes.{internalStep, returnStep};
 ghost use Rattle.commands.specs.Acts.{Acts, Stirs, Makes};
@@ -29,8 +40,6 @@ pub struct Step {
     pub outcome: Outcome,
     pub action: Action,
     pub count: u16,
-    pub core: Core,
-    pub memory: Memory,
 }
 
 // How a frame or damage ended; the port is not seen.
@@ -38,53 +47,39 @@ pub struct Made {
     pub outcome: Outcome,
     pub action: Action,
     pub sent: usize,
-    pub core: Core,
-    pub memory: Memory,
 }
 
 // ---- what a function hands back, as a step
 
-pub fn refused(outcome: Outcome, core: Core, memory: Memory) -> Step
-    ensures { λ r. ⌜ r ≡ record { outcome = outcome; action = Action.Rest; count = 0; core = core; memory = memory } ⌝ }
+pub fn refused(outcome: Outcome) -> Step
+    ensures { λ r. ⌜ r ≡ record { outcome = outcome; action = Action.Rest; count = 0 } ⌝ }
 {
     Step {
         outcome: outcome,
         action: Action::Rest,
         count: 0,
-        core: core,
-        memory: memory,
     }
 }
 
-pub fn scanned(filled: Filled, core: Core, memory: Memory) -> Step
-    ensures { λ r. ⌜ r ≡ record { outcome = filled .outcome; action = Action.Rest; count = filled .count; core = core; memory = memory } ⌝ }
+pub fn scanned(filled: Filled) -> Step
+    ensures { λ r. ⌜ r ≡ record { outcome = filled .outcome; action = Action.Rest; count = filled .count } ⌝ }
 {
     let outcome = filled.outcome;
     Step {
         outcome: outcome,
         action: Action::Rest,
         count: filled.count,
-        core: core,
-        memory: memory,
     }
 }
 
-fn written(done: blocks::Written, core: Core, memory: Memory) -> Step
-    ensures { λ r. ⌜ r ≡ record { outcome = done .outcome; action = Action.Rest; count = 0; core = withWrite core (done .write); memory = memory } ⌝ }
+fn written(kept: &mut [u16; 26], done: blocks::Written) -> Step
+    ensures { λ r. ⌜ (r ≡ record { outcome = done .outcome; action = Action.Rest; count = 0 })
+        × (readable (now (kept .entry)) ≡ true → Written (withWrite (coreIn (now (kept .entry))) (done .write)) (memoryIn (now (kept .entry))) (portIn (now (kept .entry))) (now (kept .exit))) ⌝ }
 {
     let outcome = done.outcome;
     let write = done.write;
-    let clock = core.clock;
-    let hold = core.hold;
-    let next = Core {
-        clock: clock,
-        hold: hold,
-        write: write,
-        configure: core.configure,
-        error: core.error,
-        broadcast: core.broadcast,
-    };
-    refused(outcome, next, memory)
+    keep_write(kept, write);
+    refused(outcome)
 }
 
 fn unless(cleared: bool, bit: bool) -> bool
@@ -96,76 +91,67 @@ fn unless(cleared: bool, bit: bool) -> bool
     bit
 }
 
-fn executed(done: blocks::Executed, core: Core, memory: Memory) -> Step
-    ensures { λ r. ⌜ r ≡ record {
-      outcome = done .outcome;
-      action = Action.Rest;
-      count = 0;
-      core = withError (withConfigure core (cond (done .configures) false (core .configure))) (cond (done .clears) false (core .error));
-      memory = memory;
-    } ⌝ }
+fn executed(kept: &mut [u16; 26], done: blocks::Executed) -> Step
+    ensures { λ r. ⌜ (r ≡ record { outcome = done .outcome; action = Action.Rest; count = 0 })
+        × (readable (now (kept .entry)) ≡ true → Written
+        (withError (withConfigure (coreIn (now (kept .entry))) (cond (done .configures) false (coreIn (now (kept .entry)) .configure))) (cond (done .clears) false (coreIn (now (kept .entry)) .error)))
+        (memoryIn (now (kept .entry))) (portIn (now (kept .entry))) (now (kept .exit))) ⌝ }
 {
     let outcome = done.outcome;
-    let clock = core.clock;
-    let hold = core.hold;
-    let write = core.write;
-    let next = Core {
-        clock: clock,
-        hold: hold,
-        write: write,
-        configure: unless(done.configures, core.configure),
-        error: unless(done.clears, core.error),
-        broadcast: core.broadcast,
-    };
-    refused(outcome, next, memory)
+    let configure = configure_in(kept);
+    let error = error_in(kept);
+    keep_configure(kept, unless(done.configures, configure));
+    keep_error(kept, unless(done.clears, error));
+    refused(outcome)
 }
 
-fn timed(done: clock::Set, core: Core, memory: Memory) -> Step
-    ensures { λ r. ⌜ r ≡ record { outcome = done .outcome; action = Action.Rest; count = 0; core = withClock core (done .clock); memory = memory } ⌝ }
+fn timed(kept: &mut [u16; 26], done: clock::Set) -> Step
+    ensures { λ r. ⌜ (r ≡ record { outcome = done .outcome; action = Action.Rest; count = 0 })
+        × (readable (now (kept .entry)) ≡ true → Written (withClock (coreIn (now (kept .entry))) (done .clock)) (memoryIn (now (kept .entry))) (portIn (now (kept .entry))) (now (kept .exit))) ⌝ }
 {
     let outcome = done.outcome;
     let clock = done.clock;
-    let hold = core.hold;
-    let write = core.write;
-    let next = Core {
-        clock: clock,
-        hold: hold,
-        write: write,
-        configure: core.configure,
-        error: core.error,
-        broadcast: core.broadcast,
-    };
-    refused(outcome, next, memory)
+    keep_clock(
+        kept,
+        clock.day,
+        clock.hour,
+        clock.minute,
+        clock.second,
+        clock.ms,
+    );
+    refused(outcome)
 }
 
 // ---- functions by command
 
-// 20h/00: select, write and history reply are forgotten.
-fn restart(core: Core, memory: Memory, body: &[u8]) -> Step
-    ensures { λ r. ⌜ r ≡ cond (eqb (length (now (body .entry))) 0)
-        (record { outcome = Outcome.Done; action = Action.Rest; count = 0; core = restarted core; memory = Memory.Nothing })
-        (record { outcome = Outcome.WrongCount; action = Action.Rest; count = 0; core = core; memory = memory }) ⌝ }
+// Select, write and history reply are forgotten, and the unit is to be configured.
+fn forget(kept: &mut [u16; 26])
+    ensures { λ _. ⌜ (readable (now (kept .entry)) ≡ true → Written (restarted (coreIn (now (kept .entry)))) Memory.Nothing (portIn (now (kept .entry))) (now (kept .exit))) ⌝ }
+{
+    keep_hold(kept, Hold::Free);
+    keep_write(kept, Pending::NoWrite);
+    keep_configure(kept, true);
+    keep_memory(kept, Memory::Nothing);
+}
+
+// 20h/00.
+fn restart(kept: &mut [u16; 26], body: &[u8]) -> Step
+    ensures { λ r. ⌜ (r ≡ record { outcome = cond (eqb (length (now (body .entry))) 0) Outcome.Done Outcome.WrongCount; action = Action.Rest; count = 0 })
+        × (readable (now (kept .entry)) ≡ true → Written
+        (cond (eqb (length (now (body .entry))) 0) (restarted (coreIn (now (kept .entry)))) (coreIn (now (kept .entry))))
+        (cond (eqb (length (now (body .entry))) 0) Memory.Nothing (memoryIn (now (kept .entry)))) (portIn (now (kept .entry))) (now (kept .exit))) ⌝ }
 {
     if body.len() != 0 {
-        return refused(Outcome::WrongCount, core, memory);
+        return refused(Outcome::WrongCount);
     }
-    let clock = core.clock;
-    let next = Core {
-        clock: clock,
-        hold: Hold::Free,
-        write: Pending::NoWrite,
-        configure: true,
-        error: core.error,
-        broadcast: core.broadcast,
-    };
-    refused(Outcome::Done, next, Memory::Nothing)
+    forget(kept);
+    refused(Outcome::Done)
 }
 
 // Function 20h.
 pub fn internal<'a>(
     inputs: &'a [u8; 256],
-    core: Core,
-    memory: Memory,
+    kept: &mut [u16; 26],
     words: &mut [u16; 256],
     fixed: &mut [u8; 528],
     block: &mut [u8],
@@ -173,65 +159,52 @@ pub fn internal<'a>(
     frame: Frame,
     body: &'a [u8],
 ) -> Step
-    ensures { λ r. ⌜ ((c : Config) (results : List ℕ) (fs : Files) → c .inputs ≡ now (inputs .entry) → Acts
-        (internalStep c (innerOf core (areasOf (now (words .entry)) results (now (fixed .entry)) (now (block .entry))) memory fs) (asked frame (now (body .entry))))
-        (areasOf (now (words .exit)) results (now (fixed .exit)) (now (block .exit))) fs (now (buffer .entry)) (now (buffer .exit)) r) ⌝ }
+    ensures { λ r. ⌜ ((c : Config) (results : List ℕ) (fs : Files) → c .inputs ≡ now (inputs .entry) → readable (now (kept .entry)) ≡ true → Acts
+        (internalStep c (innerOf (coreIn (now (kept .entry))) (areasOf (now (words .entry)) results (now (fixed .entry)) (now (block .entry))) (memoryIn (now (kept .entry))) fs) (asked frame (now (body .entry))))
+        (areasOf (now (words .exit)) results (now (fixed .exit)) (now (block .exit))) fs (portIn (now (kept .entry))) (now (kept .exit)) (now (buffer .entry)) (now (buffer .exit)) r) ⌝ }
 {
     let command = frame.command;
     match command {
-        0x00 => restart(core, memory, body),
-        0x11 => scanned(
-            points::reset_count(inputs, words, frame, body, buffer),
-            core,
-            memory,
-        ),
+        0x00 => restart(kept, body),
+        0x11 => scanned(points::reset_count(inputs, words, frame, body, buffer)),
         0x30 => {
-            let write = core.write;
-            written(blocks::write(write, frame, body), core, memory)
+            let write = write_kept(kept);
+            written(kept, blocks::write(write, frame, body))
         }
         0x31 => {
-            let write = core.write;
-            executed(
-                blocks::execute(write, frame, body, fixed, block),
-                core,
-                memory,
-            )
+            let write = write_kept(kept);
+            executed(kept, blocks::execute(write, frame, body, fixed, block))
         }
         0x38 => {
-            let clock = core.clock;
-            timed(clock::set_time(clock, frame, body), core, memory)
+            let clock = clock_in(kept);
+            timed(kept, clock::set_time(clock, frame, body))
         }
-        _ => refused(Outcome::Unknown, core, memory),
+        _ => refused(Outcome::Unknown),
     }
 }
 
 // Function 28h.
 pub fn returned<'a>(
-    core: Core,
-    memory: Memory,
+    kept: &'a [u16; 26],
     fixed: &'a [u8; 528],
     block: &'a [u8],
     buffer: &mut [u8],
     frame: Frame,
     body: &'a [u8],
 ) -> Step
-    requires { ⌜ clockFits (core .clock) ≡ true ⌝ }
-    ensures { λ r. ⌜ ((words results : List ℕ) (fs : Files) → Acts
-        (returnStep (innerOf core (areasOf words results (now (fixed .entry)) (now (block .entry))) memory fs) (asked frame (now (body .entry))))
-        (areasOf words results (now (fixed .entry)) (now (block .entry))) fs (now (buffer .entry)) (now (buffer .exit)) r) ⌝ }
+    requires { ⌜ clockFits (coreIn (now kept) .clock) ≡ true ⌝ }
+    ensures { λ r. ⌜ ((words results : List ℕ) (fs : Files) → readable (now (kept .entry)) ≡ true → Acts
+        (returnStep (innerOf (coreIn (now (kept .entry))) (areasOf words results (now (fixed .entry)) (now (block .entry))) (memoryIn (now (kept .entry))) fs) (asked frame (now (body .entry))))
+        (areasOf words results (now (fixed .entry)) (now (block .entry))) fs (portIn (now (kept .entry))) (now (kept .entry)) (now (buffer .entry)) (now (buffer .exit)) r) ⌝ }
 {
     let command = frame.command;
     match command {
-        0x30 => scanned(
-            blocks::read(fixed, block, frame, body, buffer),
-            core,
-            memory,
-        ),
+        0x30 => scanned(blocks::read(fixed, block, frame, body, buffer)),
         0x31 => {
-            let clock = core.clock;
-            scanned(clock::read_time(clock, frame, body, buffer), core, memory)
+            let clock = clock_in(kept);
+            scanned(clock::read_time(clock, frame, body, buffer))
         }
-        _ => refused(Outcome::Unknown, core, memory),
+        _ => refused(Outcome::Unknown),
     }
 }
 
@@ -240,89 +213,61 @@ pub fn returned<'a>(
 // Two commands of function 20h only; what they would echo goes nowhere.
 fn broadcast_step<'a>(
     inputs: &'a [u8; 256],
-    core: Core,
-    memory: Memory,
+    kept: &mut [u16; 26],
     words: &mut [u16; 256],
     frame: Frame,
     body: &'a [u8],
 ) -> Step
-    ensures { λ r. ⌜ ((c : Config) (results fixed block : List ℕ) → c .inputs ≡ now (inputs .entry) → Stirs
-        (broadcastOf c core (areasOf (now (words .entry)) results fixed block) (asked frame (now (body .entry))))
-        (areasOf (now (words .exit)) results fixed block) r) ⌝ }
+    ensures { λ r. ⌜ ((c : Config) (results fixed block : List ℕ) → c .inputs ≡ now (inputs .entry) → readable (now (kept .entry)) ≡ true → Stirs
+        (broadcastOf c (coreIn (now (kept .entry))) (areasOf (now (words .entry)) results fixed block) (asked frame (now (body .entry))))
+        (areasOf (now (words .exit)) results fixed block) (memoryIn (now (kept .entry))) (portIn (now (kept .entry))) (now (kept .exit)) (r .outcome)) ⌝ }
 {
     if frame.function == 0x20 {
         let command = frame.command;
         return match command {
             0x11 => {
                 let mut spare: [u8; 8] = [0; 8];
-                scanned(
-                    points::reset_count(inputs, words, frame, body, &mut spare),
-                    core,
-                    memory,
-                )
+                scanned(points::reset_count(inputs, words, frame, body, &mut spare))
             }
             0x38 => {
-                let clock = core.clock;
-                timed(clock::set_time(clock, frame, body), core, memory)
+                let clock = clock_in(kept);
+                timed(kept, clock::set_time(clock, frame, body))
             }
-            _ => refused(Outcome::Unknown, core, memory),
+            _ => refused(Outcome::Unknown),
         };
     }
-    refused(Outcome::Unknown, core, memory)
+    refused(Outcome::Unknown)
 }
 
 // Nothing is sent or operated.
-pub fn quiet(outcome: Outcome, core: Core, memory: Memory) -> Made
-    ensures { λ r. ⌜ r ≡ record { outcome = outcome; action = Action.Rest; sent = 0; core = core; memory = memory } ⌝ }
+pub fn quiet(outcome: Outcome) -> Made
+    ensures { λ r. ⌜ r ≡ record { outcome = outcome; action = Action.Rest; sent = 0 } ⌝ }
 {
     Made {
         outcome: outcome,
         action: Action::Rest,
         sent: 0,
-        core: core,
-        memory: memory,
-    }
-}
-
-fn with_broadcast(core: Core, broadcast: bool) -> Core
-    ensures { λ r. ⌜ r ≡ withBroadcast core broadcast ⌝ }
-{
-    let clock = core.clock;
-    let hold = core.hold;
-    let write = core.write;
-    Core {
-        clock: clock,
-        hold: hold,
-        write: write,
-        configure: core.configure,
-        error: core.error,
-        broadcast: broadcast,
     }
 }
 
 // It is never answered, and sets bit 2.
 pub fn broadcast<'a>(
     inputs: &'a [u8; 256],
-    core: Core,
-    memory: Memory,
+    kept: &mut [u16; 26],
     words: &mut [u16; 256],
     frame: Frame,
     body: &'a [u8],
 ) -> Made
-    ensures { λ r. ⌜ ((c : Config) (results fixed block : List ℕ) (fs : Files) (mark : Mark) (entry : List ℕ) → c .inputs ≡ now (inputs .entry) → Makes
-        (broadcastMade (innerOf core (areasOf (now (words .entry)) results fixed block) memory fs)
-        (broadcastOf c core (areasOf (now (words .entry)) results fixed block) (asked frame (now (body .entry)))))
-        mark (innerOf (r .core) (areasOf (now (words .exit)) results fixed block) (r .memory) fs) entry entry r) ⌝ }
+    ensures { λ r. ⌜ ((c : Config) (results fixed block : List ℕ) (fs : Files) (mark : Mark) (entry : List ℕ) → c .inputs ≡ now (inputs .entry) → readable (now (kept .entry)) ≡ true → Makes
+        (broadcastMade (innerOf (coreIn (now (kept .entry))) (areasOf (now (words .entry)) results fixed block) (memoryIn (now (kept .entry))) fs)
+        (broadcastOf c (coreIn (now (kept .entry))) (areasOf (now (words .entry)) results fixed block) (asked frame (now (body .entry)))))
+        mark (areasOf (now (words .exit)) results fixed block) fs (portIn (now (kept .entry))) (now (kept .exit)) entry entry r) ⌝ }
 {
-    let step = broadcast_step(inputs, core, memory, words, frame, body);
+    let step = broadcast_step(inputs, kept, words, frame, body);
     let outcome = step.outcome;
-    let next = step.core;
+    keep_broadcast(kept, true);
     if number(outcome) == 0 {
-        return quiet(Outcome::BroadcastDone, with_broadcast(next, true), memory);
+        return quiet(Outcome::BroadcastDone);
     }
-    quiet(
-        Outcome::BroadcastRefused,
-        with_broadcast(next, true),
-        memory,
-    )
+    quiet(Outcome::BroadcastRefused)
 }

@@ -1,4 +1,4 @@
-// The types of the unit: numbers of each kind, frames, outcomes, and what is kept by value.
+// The types of the unit: numbers of each kind, frames, outcomes, and what is kept besides areas and records.
 // What is right to do with them stands in specs/. Areas and tables are lent as arrays and so have no type here.
 ghost use mathlib.Core.Path.{_≡_};
 ghost use Rattle.model.specs.Limits.{recordSize};

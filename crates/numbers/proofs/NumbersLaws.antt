@@ -1,11 +1,11 @@
 -- Numbers written are read as what was written, and numbers that stand are those written for what they mean. Assumes nothing.
-use mathlib.Core.Path.{_≡_, refl, sym, ap, _∙_}
-use Prim.Native.Nat.{ℕ, zero, suc, _+_, _%_, _<_, _≤_}
+use mathlib.Core.Path.{_≡_, refl, sym, _∙_}
+use Prim.Native.Nat.{ℕ, zero, suc, _%_, _<_}
 use native.Mathlib.Omega.{arith}
 use native.Mathlib.Nat.{mod-eq-of-lt}
 use mathlib.Core.List.{List, [], _∷_}
-use mathlib.Core.Bool.{Bool, true, false, cond, _&&_}
-use lib.ListN.{length, getD, drop, set}
+use mathlib.Core.Bool.{Bool, true, false}
+use lib.ListN.{length, getD, drop}
 use lib.Dec.{eqb}
 use borrow.Author.Tests.{eqb-true, eq-eqb}
 use Rattle.model.specs.declared.Master.{Master}
@@ -22,7 +22,6 @@ use Rattle.model.specs.declared.Memory.the-variants.{Remembered}
 use Rattle.model.specs.declared.Mark.{Mark}
 use Rattle.model.specs.declared.Mark.the-variants.{Fine, Silent, Damaged}
 use Rattle.model.specs.declared.Port.{Port}
-use Rattle.model.specs.Step.{withError}
 use Rattle.model.proofs.Conditions.{false-true, and-left, and-right, and-both}
 use Rattle.numbers.specs.declared.HoldNumbers.{HoldNumbers}
 use Rattle.numbers.specs.declared.WriteNumbers.{WriteNumbers}
@@ -34,12 +33,9 @@ use Rattle.numbers.specs.Numbers.{
   memoryNumbers,
   markNumber,
   numbersOf,
-  putClock,
   putHold,
   putWrite,
-  putBits,
   putMemory,
-  putPort,
   putPassed,
   holdIn,
   writeIn,
@@ -51,7 +47,6 @@ use Rattle.numbers.specs.Numbers.{
   portIn,
   same,
   readable,
-  Means,
   Passed,
   Written,
 }
@@ -151,12 +146,12 @@ all-firsts zero (x ∷ xs) e = absurd (omega arith)
 all-firsts (suc n) [] e = absurd (omega arith)
 all-firsts (suc n) (x ∷ xs) e = let l : length xs ≡ n = omega arith in λ i. x ∷ all-firsts n xs l i
 
-bit-back : (b : Bool) → eqb (bitOf b) 1 ≡ b
+pub bit-back : (b : Bool) → eqb (bitOf b) 1 ≡ b
 unfolding bitOf
 bit-back true = refl
 bit-back false = refl
 
-mark-back : (m : Mark) → markIn (markNumber m) ≡ m
+pub mark-back : (m : Mark) → markIn (markNumber m) ≡ m
 unfolding markIn markNumber
 mark-back Fine = refl
 mark-back Silent = refl
@@ -189,14 +184,6 @@ passed {k} {p} ks l t h n =
       port = λ i. record { silence = p .silence; mark = mark-back (p .mark) i };
     })
 
--- with the memory, they are all
-pub written : {k : Core} {w : Memory} {p : Port} (ks : List ℕ) {ls : List ℕ} → length ks ≡ 26 → Passed k p ks ls → replyIn (memoryNumbers w) ≡ w
-    → Written k w p (putMemory (memoryNumbers w) ls)
-unfolding firsts numbersOf clockIn coreIn memoryIn portIn
-written ks l a m =
-    let s = rw (all-firsts 26 ks l) at (rw (a .plain) at a) in
-    rw (a .plain, all-firsts 26 ks l) (record { plain = refl; means = record { core = s .core; memory = m; port = s .port } })
-
 -- and numbers that stood keep their memory
 pub passed-written : {k l : Core} {w : Memory} {p q : Port} {ks ls : List ℕ} → Written k w p ks → Passed l q ks ls → Written l w q ls
 unfolding numbersOf memoryIn
@@ -205,30 +192,6 @@ passed-written s a =
       plain = a .plain ∙ rw (s .plain);
       means = record { core = a .core; memory = rw (a .plain, s .plain) (rw (s .plain) at (s .means .memory)); port = a .port };
     }
-
--- and one place changed: the error
-pub error-written : {k : Core} {w : Memory} {p : Port} {ks : List ℕ} (e : Bool) → Written k w p ks
-    → Written (withError k e) w p (set ks 16 (bitOf e))
-unfolding numbersOf clockIn coreIn memoryIn portIn
-error-written {k} {w} {p} e a =
-    let s = rw (a .plain) at (a .means) in
-    rw (a .plain)
-    (record {
-      plain = refl;
-      means = record {
-        core = λ i.
-            record {
-              clock = s .core i .clock;
-              hold = s .core i .hold;
-              write = s .core i .write;
-              configure = s .core i .configure;
-              error = bit-back e i;
-              broadcast = s .core i .broadcast;
-            };
-        memory = s .memory;
-        port = s .port;
-      };
-    })
 
 -- what was written, is readable
 pub written-readable : {core : Core} {memory : Memory} {port : Port} {ks : List ℕ} → Written core memory port ks → readable ks ≡ true

@@ -1,4 +1,4 @@
--- What a unit keeps by value, as 26 plain numbers: written, and read whatever they are.
+-- What a unit keeps besides lent areas and records, as 26 plain numbers: written, and read whatever they are.
 use mathlib.Core.Path.{_≡_}
 use Prim.Native.Nat.{ℕ, _%_}
 use mathlib.Core.List.{List, [], _∷_}
@@ -74,9 +74,6 @@ putHold n ks = set (set (set (set (set ks 5 (n .hold)) 6 (n .master)) 7 (n .outp
 abbrev pub putWrite : WriteNumbers → List ℕ → List ℕ
 putWrite n ks = set (set (set (set (set ks 10 (n .write)) 11 (n .master)) 12 (n .bias)) 13 (n .ordinal)) 14 (n .age)
 
-abbrev pub putBits : Bool → Bool → Bool → List ℕ → List ℕ
-putBits configure error broadcast ks = set (set (set ks 15 (bitOf configure)) 16 (bitOf error)) 17 (bitOf broadcast)
-
 abbrev pub putMemory : MemoryNumbers → List ℕ → List ℕ
 putMemory n ks = set (set (set (set (set (set ks 18 (n .memory)) 19 (n .master)) 20 (n .file)) 21 (n .dump)) 22 (n .quantity)) 23 (n .more)
 
@@ -86,7 +83,8 @@ putPort p ks = set (set ks 24 (p .silence)) 25 (markNumber (p .mark))
 -- core and port: those of the memory stay as they were
 abbrev pub putPassed : Core → Port → List ℕ → List ℕ
 putPassed k p ks =
-    putPort p (putBits (k .configure) (k .error) (k .broadcast) (putWrite (writeNumbers (k .write)) (putHold (holdNumbers (k .hold)) (putClock (k .clock) ks))))
+    let ls = putWrite (writeNumbers (k .write)) (putHold (holdNumbers (k .hold)) (putClock (k .clock) ks)) in
+    putPort p (set (set (set ls 15 (bitOf (k .configure))) 16 (bitOf (k .error))) 17 (bitOf (k .broadcast)))
 
 -- ---- read: any numbers mean something
 

@@ -7,20 +7,19 @@ use lib.ListN.{length}
 use lib.Dec.{eqb}
 use Rattle.chars.specs.Put.{put}
 use Rattle.model.specs.Outcome.{sendingOf, replyFunction, damaged}
-use Rattle.model.specs.Step.{answered, statusOf}
+use Rattle.model.specs.Step.{answered}
 use Rattle.model.specs.Port.{portStatus}
 use Rattle.model.specs.declared.Outcome.{Outcome}
-use Rattle.model.specs.declared.Core.{Core}
 use Rattle.model.specs.declared.Mark.{Mark}
 use Rattle.model.specs.declared.Mark.the-variants.{Fine, Damaged}
 use Rattle.model.specs.declared.Port.{Port}
 use Rattle.model.specs.declared.Reply.{Reply}
 use Rattle.frames.specs.Framed.{framedIn}
 
--- the head of the reply to a frame of which a function made o, with n characters of data
-abbrev pub headOf : Core → ℕ → ℕ → Outcome → ℕ → Mark → Reply
-headOf found address function o n mark =
-    record { address = address; function = replyFunction function o; status = statusOf found; port = portStatus mark; count = n }
+-- the head of the reply to a frame that found this status, of which a function made o, with n characters of data
+abbrev pub headOf : ℕ → ℕ → ℕ → Outcome → ℕ → Mark → Reply
+headOf status address function o n mark =
+    record { address = address; function = replyFunction function o; status = status; port = portStatus mark; count = n }
 
 -- the characters that a reply lays round its data, if it is one
 unfoldable pub repliedIn : List ℕ → Outcome → Reply → List ℕ

@@ -1,8 +1,8 @@
-// How every frame ends, whatever its function was: the reply laid round its data, the core settled, the port marked.
+// How every frame ends, whatever its function was: the reply laid round its data, the core settled, the port marked, the kept numbers
+// of each where they lie.
 use frames::outcomes::number;
 use frames::outcomes::reply_function;
 use frames::outcomes::sending;
-use model::Core;
 use model::Frame;
 use model::Mark;
 use model::Outcome;
@@ -10,9 +10,17 @@ use model::Pending;
 use model::Port;
 use model::Reply;
 use model::Sending;
+use numbers::broadcast_in;
+use numbers::configure_in;
+use numbers::error_in;
+use numbers::keep_broadcast;
+use numbers::keep_port;
+use numbers::keep_write;
+use numbers::port_in;
+use numbers::write_kept;
 ghost use mathlib.Core.Path.{_≡_};
 ghost use mathlib.Core.List.{[]};
-ghost use mathlib.Core.Bool.{false, cond};
+ghost use mathlib.Core.Bool.{true, false, cond};
 ghost use Prim.Native.Nat.{_≤_};
 ghost use lib.Dec.{eqb};
 ghost use Rattle.model.specs.Frame.{asked, masterOf};
@@ -20,6 +28,7 @@ ghost use Rattle.model.specs.Blocks.{dropped};
 ghost use Rattle.model.specs.Outcome.{numberOf, sendingOf};
 ghost use Rattle.model.specs.Step.{answered, statusOf, settled};
 ghost use Rattle.model.specs.Port.{portStatus};
+ghost use Rattle.numbers.specs.Numbers.{putPort, coreIn, memoryIn, portIn, readable, Written};
 ghost use Rattle.replies.specs.Ends.{Replies, headOf, markBy, portBy};
 
 fn is_answered(outcome: Outcome) -> bool
@@ -44,11 +53,11 @@ fn bit(on: bool, value: u8) -> u8
     0
 }
 
-// The status as the frame found it.
-fn status_of(found: Core) -> u8
-    ensures { λ r. ⌜ r ≡ statusOf found ⌝ }
+// The status, which a frame finds before its function changes it.
+pub fn status_in<'a>(kept: &'a [u16; 26]) -> u8
+    ensures { λ r. ⌜ r ≡ statusOf (coreIn (now (kept .entry))) ⌝ }
 {
-    bit(found.configure, 0x80) + (bit(found.error, 0x08) + bit(found.broadcast, 0x04))
+    bit(configure_in(kept), 0x80) + (bit(error_in(kept), 0x08) + bit(broadcast_in(kept), 0x04))
 }
 
 fn port_status(mark: Mark) -> u8
@@ -63,20 +72,20 @@ fn port_status(mark: Mark) -> u8
 
 // Head and check go round the data once, whatever the function was.
 pub fn finish(
-    found: Core,
+    status: u8,
     frame: Frame,
     outcome: Outcome,
     count: u16,
     mark: Mark,
     buffer: &mut [u8],
 ) -> usize
-    ensures { λ r. ⌜ Replies (now (buffer .entry)) (now (buffer .exit)) outcome (headOf found (frame .address) (frame .function) outcome count mark) r ⌝ }
+    ensures { λ r. ⌜ Replies (now (buffer .entry)) (now (buffer .exit)) outcome (headOf status (frame .address) (frame .function) outcome count mark) r ⌝ }
 {
     if is_answered(outcome) {
         let head = Reply {
             address: frame.address,
             function: reply_function(frame.function, outcome),
-            status: status_of(found),
+            status: status,
             port: port_status(mark),
             count: count,
         };
@@ -107,20 +116,13 @@ fn bit_left(on: bool, outcome: Outcome) -> bool
     on
 }
 
-pub fn settle(frame: Frame, outcome: Outcome, core: Core) -> Core
-    ensures { λ r. ⌜ r ≡ settled (asked frame []) outcome core ⌝ }
+pub fn settle(kept: &mut [u16; 26], frame: Frame, outcome: Outcome)
+    ensures { λ _. ⌜ (readable (now (kept .entry)) ≡ true → Written (settled (asked frame []) outcome (coreIn (now (kept .entry)))) (memoryIn (now (kept .entry))) (portIn (now (kept .entry))) (now (kept .exit))) ⌝ }
 {
-    let clock = core.clock;
-    let hold = core.hold;
-    let write = core.write;
-    Core {
-        clock: clock,
-        hold: hold,
-        write: write_left(write, frame, outcome),
-        configure: core.configure,
-        error: core.error,
-        broadcast: bit_left(core.broadcast, outcome),
-    }
+    let write = write_kept(kept);
+    keep_write(kept, write_left(write, frame, outcome));
+    let on = broadcast_in(kept);
+    keep_broadcast(kept, bit_left(on, outcome));
 }
 
 // ---- the port
@@ -142,7 +144,7 @@ fn marked(mark: Mark, outcome: Outcome) -> Mark
 }
 
 // An empty stretch changes nothing.
-pub fn port_after(port: Port, s: &[u8], outcome: Outcome) -> Port
+fn port_after(port: Port, s: &[u8], outcome: Outcome) -> Port
     ensures { λ r. ⌜ r ≡ portBy port (now (s .entry)) outcome ⌝ }
 {
     if s.len() == 0 {
@@ -153,4 +155,12 @@ pub fn port_after(port: Port, s: &[u8], outcome: Outcome) -> Port
         silence: 0,
         mark: marked(mark, outcome),
     }
+}
+
+pub fn mark_port(kept: &mut [u16; 26], s: &[u8], outcome: Outcome)
+    ensures { λ _. ⌜ now (kept .exit) ≡ putPort (portBy (portIn (now (kept .entry))) (now (s .entry)) outcome) (now (kept .entry)) ⌝ }
+{
+    let port = port_after(port_in(kept), s, outcome);
+    let mark = port.mark;
+    keep_port(kept, port.silence, mark);
 }

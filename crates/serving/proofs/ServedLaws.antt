@@ -19,17 +19,17 @@ use Rattle.model.specs.declared.Answer.the-variants.{Ended}
 use Rattle.model.specs.declared.Core.{Core}
 use Rattle.model.specs.declared.Mark.{Mark}
 use Rattle.model.specs.declared.Reply.{Reply}
+use Rattle.model.specs.declared.Port.{Port}
 use Rattle.model.proofs.Conditions.{by-bool}
+use Rattle.numbers.specs.Numbers.{coreIn, memoryIn, portIn, Written}
 use Rattle.frames.specs.Framed.{framedIn}
 use Rattle.frames.proofs.FillLaws.{framed-is, framed-long}
-use Rattle.events.specs.Kept.{innerOf}
 use Rattle.events.specs.Changes.{stepOf}
 use Rattle.replies.specs.Ends.{headOf, repliedIn, Replies}
 use Rattle.replies.proofs.ReplyLaws.{said-when, silent-when}
 use Rattle.commands.specs.declared.Step.{Step}
 use Rattle.commands.specs.declared.Made.{Made as MadeOf}
 use Rattle.commands.specs.Acts.{Makes, Tame, Acts}
-use Rattle.commands.proofs.BroadcastLaws.{inner-same}
 use Rattle.serving.proofs.StepLaws.{served-is}
 
 -- what is written over wholly does not matter
@@ -46,9 +46,9 @@ abbrev saidOf : Core → Request → Outcome → List ℕ → Said
 saidOf found q o ys = record { address = q .address; function = replyFunction (q .function) o; status = statusOf found; chars = ys }
 
 module _ (found : Core) (q : Request) (o : Outcome) (mark : Mark) (entry mid exit ys : List ℕ) (n : ℕ) (w : mid ≡ put entry 7 ys) (l : longestReply ≤ length entry) (t : Tame o ys)
-    (f : Replies mid exit o (headOf found (q .address) (q .function) o (length ys) mark) n) where
+    (f : Replies mid exit o (headOf (statusOf found) (q .address) (q .function) o (length ys) mark) n) where
   abbrev head : Reply
-  head = headOf found (q .address) (q .function) o (length ys) mark
+  head = headOf (statusOf found) (q .address) (q .function) o (length ys) mark
 
   abbrev sent : List ℕ
   sent = sentChars mark (sentAs (sendingOf o) (saidOf found q o ys))
@@ -78,15 +78,16 @@ module _ (found : Core) (q : Request) (o : Outcome) (mark : Mark) (entry mid exi
   sent-as : (n ≡ length sent) × (exit ≡ put entry 0 sent) × (n ≤ length entry)
   sent-as = by-bool (answered (sendingOf o)) sent-said sent-silent
 
-pub makes-served : (c : Config) (i : Inner) (q : Request) (mark : Mark) {areas : Areas} {fs : Files} {entry mid exit : List ℕ} {r : Step} {x : MadeOf} {n : ℕ} {core : Core}
-    → longestReply ≤ length entry → Acts (stepOf c i q) areas fs entry mid r
-    → Replies mid exit (r .outcome) (headOf (i .core) (q .address) (q .function) (r .outcome) (r .count) mark) n → core ≡ settled q (r .outcome) (r .core)
-    → x ≡ record { outcome = r .outcome; action = r .action; sent = n; core = core; memory = r .memory }
-    → Makes (served c i q) mark (innerOf (x .core) areas (x .memory) fs) entry exit x
+pub makes-served : (c : Config) (i : Inner) (q : Request) (mark : Mark) {areas : Areas} {fs : Files} {p : Port} {ks ls entry mid exit : List ℕ} {r : Step} {x : MadeOf} {n : ℕ}
+    → longestReply ≤ length entry → Acts (stepOf c i q) areas fs p ks entry mid r
+    → Replies mid exit (r .outcome) (headOf (statusOf (i .core)) (q .address) (q .function) (r .outcome) (r .count) mark) n
+    → Written (settled q (r .outcome) (coreIn ks)) (memoryIn ks) (portIn ks) ls
+    → x ≡ record { outcome = r .outcome; action = r .action; sent = n }
+    → Makes (served c i q) mark areas fs p ls entry exit x
 unfolding finished
-makes-served c i q mark {entry = entry} {mid} {exit} {r} {n = n} l a f s e =
+makes-served c i q mark {entry = entry} {mid} {exit} {r} {n = n} l a f k e =
     let p : StepOf = stepOf c i q .step in
-    let f′ : Replies mid exit (p .outcome) (headOf (i .core) (q .address) (q .function) (p .outcome) (length (p .chars)) mark) n = rw (a .counted, a .ended) at f in
+    let f′ : Replies mid exit (p .outcome) (headOf (statusOf (i .core)) (q .address) (q .function) (p .outcome) (length (p .chars)) mark) n = rw (a .counted, a .ended) at f in
     let g = sent-as (i .core) q (p .outcome) mark entry mid exit (p .chars) n (a .written) l (a .tame) f′ in
     rw (served-is c i q, e)
     (record {
@@ -95,5 +96,7 @@ makes-served c i q mark {entry = entry} {mid} {exit} {r} {n = n} l a f s e =
       counted = g .0;
       inside = g .2;
       written = g .1;
-      inner = inner-same (s ∙ rw (a .ended, a .core)) (a .areas) (a .history);
+      kept = rw (a .ended, a .kept .means .core, a .kept .means .memory, a .kept .means .port) at k;
+      areas = a .areas;
+      files = a .files;
     })

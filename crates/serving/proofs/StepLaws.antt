@@ -1,6 +1,6 @@
 -- A frame for this unit by its function: the step that it comes to, and how what a function hands back makes that step.
 -- Assumes nothing.
-use mathlib.Core.Path.{_≡_, refl, sym, ap}
+use mathlib.Core.Path.{_≡_, refl, sym}
 use Prim.Native.Nat.{ℕ}
 use mathlib.Core.List.{List}
 use mathlib.Core.Bool.{true, false}
@@ -36,7 +36,9 @@ use Rattle.model.specs.declared.Outcome.{Outcome}
 use Rattle.model.specs.declared.Outcome.the-variants.{Unknown}
 use Rattle.model.specs.declared.Action.the-variants.{Rest}
 use Rattle.model.specs.declared.Core.{Core}
+use Rattle.model.specs.declared.Port.{Port}
 use Rattle.model.proofs.Conditions.{by-bool}
+use Rattle.numbers.specs.Numbers.{Written}
 use Rattle.control.specs.declared.Ran.{Ran}
 use Rattle.control.specs.Runs.{Runs}
 use Rattle.history.specs.Change.{stays, freedBy}
@@ -98,26 +100,26 @@ module _ (c : Config) (i : Inner) (q : Request) where
 
 -- ---- what a function hands back
 
-module _ (i : Inner) {m : Stepped} {a : Areas} {entry exit : List ℕ} {r : Step} where
+module _ (i : Inner) {m : Stepped} {a : Areas} {p : Port} {ls entry exit : List ℕ} {r : Step} where
   pub acts-broken : {k : Core} {o : Outcome} → m ≡ alone i (refused o k (i .areas)) → exit ≡ entry
-      → r ≡ record { outcome = o; action = Rest; count = 0; core = k; memory = i .history .memory } → a ≡ i .areas
-      → Acts m a (i .history .files) entry exit r
+      → r ≡ record { outcome = o; action = Rest; count = 0 } → Written k (i .history .memory) p ls → a ≡ i .areas
+      → Acts m a (i .history .files) p ls entry exit r
   unfolding alone refused
-  acts-broken z x e y =
+  acts-broken z x e k y =
       let t = mute in
-      rw (z, e, y, x) (record { ended = refl; acted = refl; counted = refl; written = sym (put-none entry replyHead); core = refl; areas = refl; history = refl; tame = t })
+      rw (z, e, y, x) (record { ended = refl; acted = refl; counted = refl; written = sym (put-none entry replyHead); kept = k; areas = refl; files = refl; tame = t })
 
   pub acts-control : {x : Controlled} (f : Ran) → Tame (x .outcome) (x .chars) → m ≡ alone i (controlled (i .core) (i .areas) x) → Runs entry exit x f
-      → r ≡ record { outcome = f .outcome; action = f .action; count = f .count; core = withHold (i .core) (f .hold); memory = i .history .memory } → a ≡ i .areas
-      → Acts m a (i .history .files) entry exit r
+      → r ≡ record { outcome = f .outcome; action = f .action; count = f .count } → Written (withHold (i .core) (f .hold)) (i .history .memory) p ls → a ≡ i .areas
+      → Acts m a (i .history .files) p ls entry exit r
   unfolding alone controlled
-  acts-control f t z w e y =
+  acts-control f t z w e k y =
       rw (z, e, y)
-      (record { ended = w .ended; acted = w .acted; counted = w .counted; written = w .written; core = ap (withHold (i .core)) (w .held); areas = refl; history = refl; tame = t })
+      (record { ended = w .ended; acted = w .acted; counted = w .counted; written = w .written; kept = rw (w .held) at k; areas = refl; files = refl; tame = t })
 
 -- a step that leaves the files
-pub acted-still : {m : Stepped} {a : Areas} {fs : Files} {area held entry exit : List ℕ} {r : Step} → m .change ≡ stays → Acts m a fs entry exit r
-    → Acted m a fs area held area held entry exit r
+pub acted-still : {m : Stepped} {a : Areas} {fs : Files} {p : Port} {ls area held entry exit : List ℕ} {r : Step} → m .change ≡ stays → Acts m a fs p ls entry exit r
+    → Acted m a fs p ls area held area held entry exit r
 acted-still {area = area} {held} e w = record { acts = w; changed = rw e (still area held) }
 
 pub alone-stays : (i : Inner) (p : StepOf) {m : Stepped} → m ≡ alone i p → m .change ≡ stays

@@ -6,10 +6,11 @@ use mathlib.Core.Bool.{true}
 use lib.ListN.{length}
 use Rattle.model.specs.Config.{Config, validOf}
 use Rattle.model.specs.Fits.{historyFits}
-use Rattle.model.specs.State.{Areas, Files, Inner}
+use Rattle.model.specs.State.{Areas, Files}
 use Rattle.model.specs.Step.{Made}
 use Rattle.model.specs.declared.Memory.{Memory}
 use Rattle.model.specs.declared.Mark.{Mark}
+use Rattle.model.specs.declared.Port.{Port}
 use Rattle.history.specs.Layout.{filesIn}
 use Rattle.history.specs.Change.{Change, Changed}
 use Rattle.events.specs.Changes.{Stepped}
@@ -25,11 +26,11 @@ pub record Ready (c : Config) (w : Memory) (area counts : List ℕ) : Type 0 whe
   pub long : length counts ≡ 32
 
 -- what a function made of a frame, with the lent characters and counts of the files
-pub record Acted (m : Stepped) (a : Areas) (fs : Files) (area counts area′ counts′ entry exit : List ℕ) (r : Step) : Type 0 where
-  pub acts : Acts m a fs entry exit r
+pub record Acted (m : Stepped) (a : Areas) (fs : Files) (p : Port) (ls area counts area′ counts′ entry exit : List ℕ) (r : Step) : Type 0 where
+  pub acts : Acts m a fs p ls entry exit r
   pub changed : Changed (m .change) area counts area′ counts′
 
 -- what was made of a stretch, with the lent characters and counts of the files
-pub record MakesIn (m : Made) (ch : Change) (mark : Mark) (i : Inner) (area counts area′ counts′ entry exit : List ℕ) (r : MadeOf) : Type 0 where
-  pub makes : Makes m mark i entry exit r
+pub record MakesIn (m : Made) (ch : Change) (mark : Mark) (a : Areas) (fs : Files) (p : Port) (ls area counts area′ counts′ entry exit : List ℕ) (r : MadeOf) : Type 0 where
+  pub makes : Makes m mark a fs p ls entry exit r
   pub changed : Changed ch area counts area′ counts′

@@ -6,14 +6,17 @@ use commands::refused;
 use commands::returned;
 use commands::scanned;
 use model::Action;
-use model::Core;
 use model::Frame;
 use model::Hold;
-use model::Mark;
-use model::Memory;
 use model::Outcome;
+use numbers::hold_kept;
+use numbers::keep_hold;
+use numbers::keep_memory;
+use numbers::memory_in;
+use numbers::port_in;
 use replies::finish;
 use replies::settle;
+use replies::status_in;
 ghost use mathlib.Core.Path.{_≡_};
 ghost use mathlib.Core.Bool.{true};
 ghost use Prim.Native.Nat.{ℕ, _≤_};
@@ -22,6 +25,7 @@ ghost use Rattle.model.specs.Limits.{longestReply};
 ghost use Rattle.model.specs.Frame.{asked};
 ghost use Rattle.model.specs.Clock.{clockFits};
 ghost use Rattle.model.specs.Step.{served, withHold};
+ghost use Rattle.numbers.specs.Numbers.{coreIn, memoryIn, portIn, readable, Written};
 ghost use Rattle.history.specs.Layout.{filesIn};
 ghost use Rattle.judge.specs.Judged.{configOf};
 ghost use Rattle.events.specs.Kept.{areasOf, innerOf};
@@ -30,47 +34,32 @@ ghost use Rattle.serving.specs.Served.{Ready, Acted, MakesIn};
 
 // ---- what a function hands back, as a step
 
-fn with_hold(core: Core, hold: Hold) -> Core
-    ensures { λ r. ⌜ r ≡ withHold core hold ⌝ }
-{
-    let clock = core.clock;
-    let write = core.write;
-    Core {
-        clock: clock,
-        hold: hold,
-        write: write,
-        configure: core.configure,
-        error: core.error,
-        broadcast: core.broadcast,
-    }
-}
-
-fn controlled(ran: control::Ran, core: Core, memory: Memory) -> Step
-    ensures { λ r. ⌜ r ≡ record { outcome = ran .outcome; action = ran .action; count = ran .count; core = withHold core (ran .hold); memory = memory } ⌝ }
+fn controlled(kept: &mut [u16; 26], ran: control::Ran) -> Step
+    ensures { λ r. ⌜ (r ≡ record { outcome = ran .outcome; action = ran .action; count = ran .count })
+        × (readable (now (kept .entry)) ≡ true → Written (withHold (coreIn (now (kept .entry))) (ran .hold)) (memoryIn (now (kept .entry))) (portIn (now (kept .entry))) (now (kept .exit))) ⌝ }
 {
     let outcome = ran.outcome;
     let action = ran.action;
     let hold = ran.hold;
+    keep_hold(kept, hold);
     Step {
         outcome: outcome,
         action: action,
         count: ran.count,
-        core: with_hold(core, hold),
-        memory: memory,
     }
 }
 
-fn told(done: history::Told, core: Core) -> Step
-    ensures { λ r. ⌜ r ≡ record { outcome = done .outcome; action = Action.Rest; count = done .count; core = core; memory = done .memory } ⌝ }
+fn told(kept: &mut [u16; 26], done: history::Told) -> Step
+    ensures { λ r. ⌜ (r ≡ record { outcome = done .outcome; action = Action.Rest; count = done .count })
+        × (readable (now (kept .entry)) ≡ true → Written (coreIn (now (kept .entry))) (done .memory) (portIn (now (kept .entry))) (now (kept .exit))) ⌝ }
 {
     let outcome = done.outcome;
     let memory = done.memory;
+    keep_memory(kept, memory);
     Step {
         outcome: outcome,
         action: Action::Rest,
         count: done.count,
-        core: core,
-        memory: memory,
     }
 }
 
@@ -83,8 +72,7 @@ fn act<'a>(
     calculations: &'a [u8; 256],
     files: &'a [u8; 32],
     values: &'a [u8; 32],
-    core: Core,
-    memory: Memory,
+    kept: &mut [u16; 26],
     words: &mut [u16; 256],
     results: &'a [u32; 128],
     fixed: &mut [u8; 528],
@@ -95,64 +83,46 @@ fn act<'a>(
     frame: Frame,
     body: &'a [u8],
 ) -> Step
-    requires { ⌜ (longestReply ≤ length (now buffer)) × (clockFits (core .clock) ≡ true) ⌝ }
-    ensures { λ r. ⌜ ((unit long : ℕ) → Ready (configOf unit long (now (inputs .entry)) (now (outputs .entry)) (now (calculations .entry)) (now (files .entry)) (now (values .entry))) memory (now (area .entry)) (now (counts .entry))
+    requires { ⌜ (longestReply ≤ length (now buffer)) × (clockFits (coreIn (now kept) .clock) ≡ true) ⌝ }
+    ensures { λ r. ⌜ ((unit long : ℕ) → Ready (configOf unit long (now (inputs .entry)) (now (outputs .entry)) (now (calculations .entry)) (now (files .entry)) (now (values .entry))) (memoryIn (now (kept .entry))) (now (area .entry)) (now (counts .entry)) → readable (now (kept .entry)) ≡ true
         → Acted (stepOf (configOf unit long (now (inputs .entry)) (now (outputs .entry)) (now (calculations .entry)) (now (files .entry)) (now (values .entry)))
-        (innerOf core (areasOf (now (words .entry)) (now (results .entry)) (now (fixed .entry)) (now (block .entry))) memory (filesIn (now (values .entry)) (now (area .entry)) (now (counts .entry)))) (asked frame (now (body .entry))))
-        (areasOf (now (words .exit)) (now (results .entry)) (now (fixed .exit)) (now (block .exit))) (filesIn (now (values .entry)) (now (area .exit)) (now (counts .exit)))
+        (innerOf (coreIn (now (kept .entry))) (areasOf (now (words .entry)) (now (results .entry)) (now (fixed .entry)) (now (block .entry))) (memoryIn (now (kept .entry))) (filesIn (now (values .entry)) (now (area .entry)) (now (counts .entry)))) (asked frame (now (body .entry))))
+        (areasOf (now (words .exit)) (now (results .entry)) (now (fixed .exit)) (now (block .exit))) (filesIn (now (values .entry)) (now (area .exit)) (now (counts .exit))) (portIn (now (kept .entry))) (now (kept .exit))
         (now (area .entry)) (now (counts .entry)) (now (area .exit)) (now (counts .exit)) (now (buffer .entry)) (now (buffer .exit)) r) ⌝ }
 {
-    let hold = core.hold;
+    let hold = hold_kept(kept);
     if control::breaks_off(hold, frame, body) {
-        return refused(Outcome::BrokenOff, with_hold(core, Hold::Free), memory);
+        keep_hold(kept, Hold::Free);
+        return refused(Outcome::BrokenOff);
     }
     let function = frame.function;
     match function {
-        0x00 => {
-            let filled = inputs::scan(inputs, words, frame, body, buffer);
-            scanned(filled, core, memory)
-        }
-        0x03 => {
-            let filled = calculations::scan(calculations, results, frame, body, buffer);
-            scanned(filled, core, memory)
-        }
+        0x00 => scanned(inputs::scan(inputs, words, frame, body, buffer)),
+        0x03 => scanned(calculations::scan(calculations, results, frame, body, buffer)),
         0x04 => {
+            let memory = memory_in(kept);
             let done = history::serve(files, values, area, counts, memory, frame, body, buffer);
-            told(done, core)
+            told(kept, done)
         }
-        0x0A => {
-            let filled = tables::scan(inputs, fixed, words, frame, body, buffer);
-            scanned(filled, core, memory)
-        }
+        0x0A => scanned(tables::scan(inputs, fixed, words, frame, body, buffer)),
         0x10 => {
             let ran = control::control(outputs, hold, frame, body, buffer);
-            controlled(ran, core, memory)
+            controlled(kept, ran)
         }
-        0x20 => internal(
-            inputs,
-            core,
-            memory,
-            words,
-            fixed,
-            block,
-            buffer,
-            frame,
-            body,
-        ),
-        0x28 => returned(core, memory, fixed, block, buffer, frame, body),
-        _ => refused(Outcome::Unknown, core, memory),
+        0x20 => internal(inputs, kept, words, fixed, block, buffer, frame, body),
+        0x28 => returned(kept, fixed, block, buffer, frame, body),
+        _ => refused(Outcome::Unknown),
     }
 }
 
+// The status and the mark are sent as the frame found them.
 pub fn served<'a>(
     inputs: &'a [u8; 256],
     outputs: &'a [u8; 256],
     calculations: &'a [u8; 256],
     files: &'a [u8; 32],
     values: &'a [u8; 32],
-    core: Core,
-    memory: Memory,
-    mark: Mark,
+    kept: &mut [u16; 26],
     words: &mut [u16; 256],
     results: &'a [u32; 128],
     fixed: &mut [u8; 528],
@@ -163,20 +133,22 @@ pub fn served<'a>(
     frame: Frame,
     body: &'a [u8],
 ) -> Made
-    requires { ⌜ (longestReply ≤ length (now buffer)) × (clockFits (core .clock) ≡ true) ⌝ }
-    ensures { λ r. ⌜ ((unit long : ℕ) → Ready (configOf unit long (now (inputs .entry)) (now (outputs .entry)) (now (calculations .entry)) (now (files .entry)) (now (values .entry))) memory (now (area .entry)) (now (counts .entry)) → MakesIn
-        (served (configOf unit long (now (inputs .entry)) (now (outputs .entry)) (now (calculations .entry)) (now (files .entry)) (now (values .entry))) (innerOf core (areasOf (now (words .entry)) (now (results .entry)) (now (fixed .entry)) (now (block .entry))) memory (filesIn (now (values .entry)) (now (area .entry)) (now (counts .entry)))) (asked frame (now (body .entry))))
-        (stepOf (configOf unit long (now (inputs .entry)) (now (outputs .entry)) (now (calculations .entry)) (now (files .entry)) (now (values .entry))) (innerOf core (areasOf (now (words .entry)) (now (results .entry)) (now (fixed .entry)) (now (block .entry))) memory (filesIn (now (values .entry)) (now (area .entry)) (now (counts .entry)))) (asked frame (now (body .entry))) .change)
-        mark (innerOf (r .core) (areasOf (now (words .exit)) (now (results .entry)) (now (fixed .exit)) (now (block .exit))) (r .memory) (filesIn (now (values .entry)) (now (area .exit)) (now (counts .exit)))) (now (area .entry)) (now (counts .entry)) (now (area .exit)) (now (counts .exit)) (now (buffer .entry)) (now (buffer .exit)) r) ⌝ }
+    requires { ⌜ (longestReply ≤ length (now buffer)) × (clockFits (coreIn (now kept) .clock) ≡ true) ⌝ }
+    ensures { λ r. ⌜ ((unit long : ℕ) → Ready (configOf unit long (now (inputs .entry)) (now (outputs .entry)) (now (calculations .entry)) (now (files .entry)) (now (values .entry))) (memoryIn (now (kept .entry))) (now (area .entry)) (now (counts .entry)) → readable (now (kept .entry)) ≡ true → MakesIn
+        (served (configOf unit long (now (inputs .entry)) (now (outputs .entry)) (now (calculations .entry)) (now (files .entry)) (now (values .entry))) (innerOf (coreIn (now (kept .entry))) (areasOf (now (words .entry)) (now (results .entry)) (now (fixed .entry)) (now (block .entry))) (memoryIn (now (kept .entry))) (filesIn (now (values .entry)) (now (area .entry)) (now (counts .entry)))) (asked frame (now (body .entry))))
+        (stepOf (configOf unit long (now (inputs .entry)) (now (outputs .entry)) (now (calculations .entry)) (now (files .entry)) (now (values .entry))) (innerOf (coreIn (now (kept .entry))) (areasOf (now (words .entry)) (now (results .entry)) (now (fixed .entry)) (now (block .entry))) (memoryIn (now (kept .entry))) (filesIn (now (values .entry)) (now (area .entry)) (now (counts .entry)))) (asked frame (now (body .entry))) .change)
+        (portIn (now (kept .entry)) .mark) (areasOf (now (words .exit)) (now (results .entry)) (now (fixed .exit)) (now (block .exit))) (filesIn (now (values .entry)) (now (area .exit)) (now (counts .exit))) (portIn (now (kept .entry))) (now (kept .exit)) (now (area .entry)) (now (counts .entry)) (now (area .exit)) (now (counts .exit)) (now (buffer .entry)) (now (buffer .exit)) r) ⌝ }
 {
+    let status = status_in(kept);
+    let port = port_in(kept);
+    let mark = port.mark;
     let step = act(
         inputs,
         outputs,
         calculations,
         files,
         values,
-        core,
-        memory,
+        kept,
         words,
         results,
         fixed,
@@ -189,14 +161,11 @@ pub fn served<'a>(
     );
     let outcome = step.outcome;
     let action = step.action;
-    let next = step.core;
-    let kept = step.memory;
-    let sent = finish(core, frame, outcome, step.count, mark, buffer);
+    let sent = finish(status, frame, outcome, step.count, mark, buffer);
+    settle(kept, frame, outcome);
     Made {
         outcome: outcome,
         action: action,
         sent: sent,
-        core: settle(frame, outcome, next),
-        memory: kept,
     }
 }

@@ -3,17 +3,10 @@ use commands::Made;
 use commands::broadcast;
 use commands::quiet;
 use model::Action;
-use model::Core;
 use model::Heard;
-use model::Memory;
 use model::Outcome;
-use model::Port;
 use model::Reply;
-use numbers::core_in;
-use numbers::keep;
-use numbers::memory_in;
-use numbers::port_in;
-use replies::port_after;
+use replies::mark_port;
 use serving::served;
 ghost use mathlib.Core.Path.{_≡_};
 ghost use mathlib.Core.Bool.{true};
@@ -27,10 +20,9 @@ ghost use Rattle.model.specs.Fits.{historyFits};
 ghost use Rattle.model.specs.Step.{judged};
 ghost use Rattle.history.specs.Layout.{filesIn};
 ghost use Rattle.judge.specs.Judged.{configOf};
-ghost use Rattle.numbers.specs.Numbers.{Written};
+ghost use Rattle.numbers.specs.Numbers.{coreIn, memoryIn, portIn, readable};
 ghost use Rattle.events.specs.Kept.{areasOf, innerOf, ownedOf};
 ghost use Rattle.events.specs.Changes.{changeHeard};
-ghost use Rattle.replies.specs.Ends.{portBy};
 ghost use Rattle.serving.specs.Served.{MakesIn};
 ghost use Rattle.unit.specs.Turn.{Serves};
 
@@ -54,9 +46,7 @@ fn judged<'a>(
     calculations: &'a [u8; 256],
     files: &'a [u8; 32],
     values: &'a [u8; 32],
-    core: Core,
-    memory: Memory,
-    port: Port,
+    kept: &mut [u16; 26],
     words: &mut [u16; 256],
     results: &'a [u32; 128],
     fixed: &mut [u8; 528],
@@ -66,20 +56,20 @@ fn judged<'a>(
     buffer: &mut [u8],
     s: &'a [u8],
 ) -> Made
-    requires { ⌜ (longestReply ≤ length (now buffer)) × (clockFits (core .clock) ≡ true) ⌝ }
+    requires { ⌜ (longestReply ≤ length (now buffer)) × (clockFits (coreIn (now kept) .clock) ≡ true) ⌝ }
     ensures { λ r. ⌜ ((long : ℕ) → validOf (configOf unit long (now (inputs .entry)) (now (outputs .entry)) (now (calculations .entry)) (now (files .entry)) (now (values .entry))) ≡ true
-        → historyFits (configOf unit long (now (inputs .entry)) (now (outputs .entry)) (now (calculations .entry)) (now (files .entry)) (now (values .entry))) (record { memory = memory; files = filesIn (now (values .entry)) (now (area .entry)) (now (counts .entry)) }) ≡ true
-        → MakesIn
-        (judged (configOf unit long (now (inputs .entry)) (now (outputs .entry)) (now (calculations .entry)) (now (files .entry)) (now (values .entry))) (innerOf core (areasOf (now (words .entry)) (now (results .entry)) (now (fixed .entry)) (now (block .entry))) memory (filesIn (now (values .entry)) (now (area .entry)) (now (counts .entry)))) (now (s .entry)) (heardOf (now (s .entry))))
-        (changeHeard (configOf unit long (now (inputs .entry)) (now (outputs .entry)) (now (calculations .entry)) (now (files .entry)) (now (values .entry))) (innerOf core (areasOf (now (words .entry)) (now (results .entry)) (now (fixed .entry)) (now (block .entry))) memory (filesIn (now (values .entry)) (now (area .entry)) (now (counts .entry)))) (now (s .entry)) (heardOf (now (s .entry))))
-        (port .mark) (innerOf (r .core) (areasOf (now (words .exit)) (now (results .entry)) (now (fixed .exit)) (now (block .exit))) (r .memory) (filesIn (now (values .entry)) (now (area .exit)) (now (counts .exit)))) (now (area .entry)) (now (counts .entry)) (now (area .exit)) (now (counts .exit)) (now (buffer .entry)) (now (buffer .exit)) r) ⌝ }
+        → historyFits (configOf unit long (now (inputs .entry)) (now (outputs .entry)) (now (calculations .entry)) (now (files .entry)) (now (values .entry))) (record { memory = memoryIn (now (kept .entry)); files = filesIn (now (values .entry)) (now (area .entry)) (now (counts .entry)) }) ≡ true
+        → readable (now (kept .entry)) ≡ true → MakesIn
+        (judged (configOf unit long (now (inputs .entry)) (now (outputs .entry)) (now (calculations .entry)) (now (files .entry)) (now (values .entry))) (innerOf (coreIn (now (kept .entry))) (areasOf (now (words .entry)) (now (results .entry)) (now (fixed .entry)) (now (block .entry))) (memoryIn (now (kept .entry))) (filesIn (now (values .entry)) (now (area .entry)) (now (counts .entry)))) (now (s .entry)) (heardOf (now (s .entry))))
+        (changeHeard (configOf unit long (now (inputs .entry)) (now (outputs .entry)) (now (calculations .entry)) (now (files .entry)) (now (values .entry))) (innerOf (coreIn (now (kept .entry))) (areasOf (now (words .entry)) (now (results .entry)) (now (fixed .entry)) (now (block .entry))) (memoryIn (now (kept .entry))) (filesIn (now (values .entry)) (now (area .entry)) (now (counts .entry)))) (now (s .entry)) (heardOf (now (s .entry))))
+        (portIn (now (kept .entry)) .mark) (areasOf (now (words .exit)) (now (results .entry)) (now (fixed .exit)) (now (block .exit))) (filesIn (now (values .entry)) (now (area .exit)) (now (counts .exit)))
+        (portIn (now (kept .entry))) (now (kept .exit)) (now (area .entry)) (now (counts .entry)) (now (area .exit)) (now (counts .exit)) (now (buffer .entry)) (now (buffer .exit)) r) ⌝ }
 {
     told_long(area, counts);
-    let mark = port.mark;
     let heard = frames::hear(s);
     match heard {
-        Heard::Broken => quiet(Outcome::NotWhole, core, memory),
-        Heard::Wrong => quiet(Outcome::CheckWrong, core, memory),
+        Heard::Broken => quiet(Outcome::NotWhole),
+        Heard::Wrong => quiet(Outcome::CheckWrong),
         Heard::Whole(frame) => {
             let body = frames::data_of(s, frame);
             let to = frames::unit_of(frame.address);
@@ -90,9 +80,7 @@ fn judged<'a>(
                     calculations,
                     files,
                     values,
-                    core,
-                    memory,
-                    mark,
+                    kept,
                     words,
                     results,
                     fixed,
@@ -105,9 +93,9 @@ fn judged<'a>(
                 );
             }
             if to == ALL {
-                return broadcast(inputs, core, memory, words, frame, body);
+                return broadcast(inputs, kept, words, frame, body);
             }
-            quiet(Outcome::OtherUnit, core, memory)
+            quiet(Outcome::OtherUnit)
         }
     }
 }
@@ -133,16 +121,6 @@ fn turned(made: Made) -> Turn
         action: action,
         sent: made.sent,
     }
-}
-
-// What was made is kept, with the port after it.
-fn leave(kept: &mut [u16; 26], made: Made, port: Port, s: &[u8])
-    ensures { λ _. ⌜ Written (made .core) (made .memory) (portBy port (now (s .entry)) (made .outcome)) (now (kept .exit)) ⌝ }
-{
-    let outcome = made.outcome;
-    let core = made.core;
-    let memory = made.memory;
-    keep(kept, core, memory, port_after(port, s, outcome));
 }
 
 pub fn stretch<'a>(
@@ -185,9 +163,6 @@ pub fn stretch<'a>(
         block.len(),
         counts,
     ) {
-        let core = core_in(kept);
-        let memory = memory_in(kept);
-        let port = port_in(kept);
         let made = judged(
             unit,
             inputs,
@@ -195,9 +170,7 @@ pub fn stretch<'a>(
             calculations,
             files,
             values,
-            core,
-            memory,
-            port,
+            kept,
             words,
             results,
             fixed,
@@ -207,7 +180,8 @@ pub fn stretch<'a>(
             buffer,
             s,
         );
-        leave(kept, made, port, s);
+        let outcome = made.outcome;
+        mark_port(kept, s, outcome);
         return turned(made);
     }
     away(Outcome::NotConfigured)

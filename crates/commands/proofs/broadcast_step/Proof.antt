@@ -8,6 +8,11 @@ use Rattle.model.specs.Step.{changed}
 use Rattle.clock.specs.declared.Set.{Set}
 use Rattle.events.specs.Kept.{areasOf}
 use Rattle.commands.proofs.BroadcastLaws.{broadcast-not, broadcast-reset, broadcast-time, broadcast-other, stirs-reset, stirs-time, stirs-refused}
+use Rattle.model.specs.Clock.{setTimeOf}
+use Rattle.model.specs.declared.Clock.{Clock}
+use Rattle.clock.specs.Times.{setOf}
+use Rattle.numbers.specs.Numbers.{coreIn}
+use Rattle.numbers.proofs.NumbersLaws.{readable-written}
 use borrow.Author.Needs.{needs}
 use Rattle.commands.proofs.broadcast_step.Statement.{statement}
 use Rattle.commands.proofs.broadcast_step.Tie as tie
@@ -21,6 +26,9 @@ reset-count-requires c κs = search needs
 scanned-requires : tie.Need-scanned-requires
 scanned-requires c κs = search needs
 
+clock-in-requires : tie.Need-clock-in-requires
+clock-in-requires c κs = search needs
+
 set-time-requires : tie.Need-set-time-requires
 set-time-requires c κs = search needs
 
@@ -33,29 +41,31 @@ refused-requires c κs = search needs
 returns : tie.Need-returns
 returns c =
     let s = c .before .before .before .before .before .before .before .before .before in
-    λ cfg results fixed block e.
+    λ cfg results fixed block e stands.
     let q = asked (s .args .frame) (s .args .body .now) in
-    let k = s .args .core in
+    let k = coreIn (s .args .kept .now) in
     let a = areasOf (s .args .words .now) results fixed block in
-    stirs-reset k a (s .args .memory) _ (broadcast-reset cfg k a q (c .before .before .before .before .before .before .if1 .taken) (c .before .before .before .before .before .match .keys1) ∙ ap (λ (t : List ℕ). changed k a (resetCountOf t (a .words) q)) e) (c .before .before .reset-count .ensures .0) (c .before .before .reset-count .ensures .1) (c .scanned .ensures) refl
+    stirs-reset k a _ (broadcast-reset cfg k a q (c .before .before .before .before .before .before .if1 .taken) (c .before .before .before .before .before .match .keys1) ∙ ap (λ (t : List ℕ). changed k a (resetCountOf t (a .words) q)) e) (c .before .before .reset-count .ensures .0) (c .before .before .reset-count .ensures .1) (c .scanned .ensures) (readable-written _ stands) refl
 
 returns-2 : tie.Need-returns-2
+unfolding coreIn
 returns-2 c =
-    let s = c .before .before .before .before .before .before .before in
-    λ cfg results fixed block e.
+    let s = c .before .before .before .before .before .before .before .before .before in
+    λ cfg results fixed block e stands.
     let q = asked (s .args .frame) (s .args .body .now) in
-    let k = s .args .core in
+    let k = coreIn (s .args .kept .now) in
     let a = areasOf (s .args .words .now) results fixed block in
-    stirs-time k a (s .args .memory) _ (broadcast-time cfg k a q (c .before .before .before .before .if1 .taken) (c .before .before .before .match .keys2)) (ap (λ (x : Set). x .outcome) (c .before .set-time .ensures)) (c .timed .ensures ∙ rw (c .before .set-time .ensures)) refl
+    let done = c .before .set-time .ensures ∙ ap (λ (t : Clock). setOf (setTimeOf t q)) (c .before .before .before .clock-in .ensures) in
+    stirs-time k a _ (broadcast-time cfg k a q (c .before .before .before .before .before .before .if1 .taken) (c .before .before .before .before .before .match .keys2)) (ap (λ (x : Set). x .outcome) done) (c .timed .ensures .0) (rw done at (c .timed .ensures .1 stands)) refl
 
 returns-3 : tie.Need-returns-3
 returns-3 c =
     let s = c .before .before .before .before .before in
-    λ cfg results fixed block e.
+    λ cfg results fixed block e stands.
     let q = asked (s .args .frame) (s .args .body .now) in
-    let k = s .args .core in
+    let k = coreIn (s .args .kept .now) in
     let a = areasOf (s .args .words .now) results fixed block in
-    stirs-refused k a (s .args .memory) (broadcast-other cfg k a q (c .before .before .if1 .taken) (c .before .match .rest .0 .1) (c .before .match .rest .1)) (c .refused .ensures) refl
+    stirs-refused k a (broadcast-other cfg k a q (c .before .before .if1 .taken) (c .before .match .rest .0 .1) (c .before .match .rest .1)) (c .refused .ensures) (readable-written _ stands) refl
 
 refused-requires-2 : tie.Need-refused-requires-2
 refused-requires-2 c κs = search needs
@@ -63,11 +73,11 @@ refused-requires-2 c κs = search needs
 returns-4 : tie.Need-returns-4
 returns-4 c =
     let s = c .before .before .before .before in
-    λ cfg results fixed block e.
+    λ cfg results fixed block e stands.
     let q = asked (s .args .frame) (s .args .body .now) in
-    let k = s .args .core in
+    let k = coreIn (s .args .kept .now) in
     let a = areasOf (s .args .words .now) results fixed block in
-    stirs-refused k a (s .args .memory) (broadcast-not cfg k a q (c .before .if1 .left)) (c .refused2 .ensures) refl
+    stirs-refused k a (broadcast-not cfg k a q (c .before .if1 .left)) (c .refused2 .ensures) (readable-written _ stands) refl
 
 pub broadcast-step-spec : {M : Type 1} → statement M
 broadcast-step-spec =
@@ -76,6 +86,7 @@ broadcast-step-spec =
     slice-aggregate-reset-count
     reset-count-requires
     scanned-requires
+    clock-in-requires
     set-time-requires
     timed-requires
     refused-requires

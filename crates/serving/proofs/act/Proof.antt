@@ -1,11 +1,16 @@
 -- `serving::act` meets its contract. Assumes nothing.
-use mathlib.Core.Path.{refl, sym, _∙_}
+use mathlib.Core.Path.{refl, sym, ap, _∙_}
 use Rattle.model.specs.Frame.{asked}
-use Rattle.events.specs.Kept.{areasOf, innerOf}
+use Rattle.model.specs.Control.{breaks}
 use Rattle.model.specs.Step.{brokenOff}
+use Rattle.model.specs.declared.Hold.{Hold}
+use Rattle.numbers.specs.Numbers.{coreIn, memoryIn}
+use Rattle.numbers.proofs.NumbersLaws.{readable-written}
+use Rattle.numbers.proofs.PlaceLaws.{hold-written}
 use Rattle.judge.specs.Judged.{configOf}
 use Rattle.history.specs.Layout.{filesIn}
 use Rattle.points.proofs.AnswerLaws.{in-room, fills-as}
+use Rattle.events.specs.Kept.{areasOf, innerOf}
 use Rattle.commands.proofs.CommandLaws.{internal-stays, return-stays, acts-scan, acts-refused}
 use Rattle.serving.proofs.StepLaws.{step-broken, step-told, step-inputs, step-calculations, step-tables, step-control, step-internal, step-return, step-unknown, acts-control, acts-broken, acted-still, alone-stays}
 use Rattle.serving.proofs.TameLaws.{inputs-tame, calculations-tame, tables-tame, control-tame}
@@ -14,27 +19,31 @@ use borrow.Author.Needs.{needs}
 use Rattle.serving.proofs.act.Statement.{statement}
 use Rattle.serving.proofs.act.Tie as tie
 
+hold-kept-requires : tie.Need-hold-kept-requires
+hold-kept-requires c κs = search needs
+
 breaks-off-requires : tie.Need-breaks-off-requires
 breaks-off-requires c κs = search needs
 
-with-hold-requires : tie.Need-with-hold-requires
-with-hold-requires c κs = search needs
+keep-hold-requires : tie.Need-keep-hold-requires
+keep-hold-requires c κs = search needs
 
 refused-requires : tie.Need-refused-requires
 refused-requires c κs = search needs
 
 returns : tie.Need-returns
-unfolding brokenOff
+unfolding brokenOff coreIn
 returns c =
-    let s = c .before .before .before .before .before .before .before in
-    let b = sym (c .before .before .before .breaks-off .ensures) ∙ c .before .before .if1 .taken in
-    λ unit long y.
+    let s = c .before .before .before .before .before .before .before .before .before .before in
+    let ks = s .args .kept .now in
+    λ unit long y stands.
     let q = asked (s .args .frame) (s .args .body .now) in
+    let b = sym (c .before .before .before .before .breaks-off .ensures ∙ ap (λ (h : Hold). breaks h q) (c .before .before .before .before .before .hold-kept .ensures)) ∙ c .before .before .before .if1 .taken in
     let cfg = configOf unit long (s .args .inputs .now) (s .args .outputs .now) (s .args .calculations .now) (s .args .files .now) (s .args .values .now) in
     let fs = filesIn (s .args .values .now) (s .args .area .now) (s .args .counts .now) in
-    let i = innerOf (s .args .core) (areasOf (s .args .words .now) (s .args .results .now) (s .args .fixed .now) (s .args .block .now)) (s .args .memory) fs in
+    let i = innerOf (coreIn ks) (areasOf (s .args .words .now) (s .args .results .now) (s .args .fixed .now) (s .args .block .now)) (memoryIn ks) fs in
     let z = step-broken cfg i q b in
-    acted-still (alone-stays i _ z) (acts-broken i z refl (c .refused .ensures ∙ rw (c .before .with-hold .ensures)) refl)
+    acted-still (alone-stays i _ z) (acts-broken i z refl (c .refused .ensures) (hold-written (readable-written ks stands) (c .before .keep-hold .ensures)) refl)
 
 scan-requires : tie.Need-scan-requires
 scan-requires c κs = search needs
@@ -47,6 +56,9 @@ scan-requires-2 c κs = search needs
 
 scanned-requires-2 : tie.Need-scanned-requires-2
 scanned-requires-2 c κs = search needs
+
+memory-in-requires : tie.Need-memory-in-requires
+memory-in-requires c κs = search needs
 
 serve-requires : tie.Need-serve-requires
 serve-requires c κs = search needs
@@ -79,75 +91,87 @@ same-length : tie.Need-same-length
 same-length c = search needs
 
 returns-2 : tie.Need-returns-2
+unfolding coreIn
 returns-2 c =
-    let s = c .before .before .before .before .before .before .before .before .before .before .before .before in
-    let b = sym (c .before .before .before .before .before .before .before .before .breaks-off .ensures) ∙ c .before .before .before .before .before .before .before .if1 .left in
-    λ unit long y.
+    let s = c .before .before .before .before .before .before .before .before .before .before .before .before .before .before in
+    let ks = s .args .kept .now in
+    λ unit long y stands.
     let q = asked (s .args .frame) (s .args .body .now) in
+    let b = sym (c .before .before .before .before .before .before .before .before .breaks-off .ensures ∙ ap (λ (h : Hold). breaks h q) (c .before .before .before .before .before .before .before .before .before .hold-kept .ensures)) ∙ c .before .before .before .before .before .before .before .if1 .left in
     let cfg = configOf unit long (s .args .inputs .now) (s .args .outputs .now) (s .args .calculations .now) (s .args .files .now) (s .args .values .now) in
     let fs = filesIn (s .args .values .now) (s .args .area .now) (s .args .counts .now) in
-    let i = innerOf (s .args .core) (areasOf (s .args .words .now) (s .args .results .now) (s .args .fixed .now) (s .args .block .now)) (s .args .memory) fs in
+    let i = innerOf (coreIn ks) (areasOf (s .args .words .now) (s .args .results .now) (s .args .fixed .now) (s .args .block .now)) (memoryIn ks) fs in
     let z = step-inputs cfg i q b (c .before .before .before .before .before .before .match .keys1) in
-    acted-still (alone-stays i _ z) (acts-scan i _ (inputs-tame _ _ q) z (fills-as (sym (in-room _ _ (s .pre .0))) (c .before .before .before .scan .ensures)) (c .scanned .ensures) refl)
+    acted-still (alone-stays i _ z) (acts-scan i _ (inputs-tame _ _ q) z (fills-as (sym (in-room _ _ (s .pre .0))) (c .before .before .before .scan .ensures)) (c .scanned .ensures) (readable-written ks stands) refl)
 
 same-length-2 : tie.Need-same-length-2
 same-length-2 c = search needs
 
 returns-3 : tie.Need-returns-3
+unfolding coreIn
 returns-3 c =
-    let s = c .before .before .before .before .before .before .before .before .before .before .before in
-    let b = sym (c .before .before .before .before .before .before .before .breaks-off .ensures) ∙ c .before .before .before .before .before .before .if1 .left in
-    λ unit long y.
+    let s = c .before .before .before .before .before .before .before .before .before .before .before .before .before in
+    let ks = s .args .kept .now in
+    λ unit long y stands.
     let q = asked (s .args .frame) (s .args .body .now) in
+    let b = sym (c .before .before .before .before .before .before .before .breaks-off .ensures ∙ ap (λ (h : Hold). breaks h q) (c .before .before .before .before .before .before .before .before .hold-kept .ensures)) ∙ c .before .before .before .before .before .before .if1 .left in
     let cfg = configOf unit long (s .args .inputs .now) (s .args .outputs .now) (s .args .calculations .now) (s .args .files .now) (s .args .values .now) in
     let fs = filesIn (s .args .values .now) (s .args .area .now) (s .args .counts .now) in
-    let i = innerOf (s .args .core) (areasOf (s .args .words .now) (s .args .results .now) (s .args .fixed .now) (s .args .block .now)) (s .args .memory) fs in
+    let i = innerOf (coreIn ks) (areasOf (s .args .words .now) (s .args .results .now) (s .args .fixed .now) (s .args .block .now)) (memoryIn ks) fs in
     let z = step-calculations cfg i q b (c .before .before .before .before .before .match .keys2) in
-    acted-still (alone-stays i _ z) (acts-scan i _ (calculations-tame _ _ q) z (fills-as (sym (in-room _ _ (s .pre .0))) (c .before .before .before .scan2 .ensures)) (c .scanned2 .ensures) refl)
+    acted-still (alone-stays i _ z) (acts-scan i _ (calculations-tame _ _ q) z (fills-as (sym (in-room _ _ (s .pre .0))) (c .before .before .before .scan2 .ensures)) (c .scanned2 .ensures) (readable-written ks stands) refl)
 
 same-length-3 : tie.Need-same-length-3
 same-length-3 c = search needs
 
 returns-4 : tie.Need-returns-4
+unfolding coreIn
 returns-4 c =
-    let s = c .before .before .before .before .before .before .before .before .before .before .before .before .before in
-    let b = sym (c .before .before .before .before .before .before .before .before .before .breaks-off .ensures) ∙ c .before .before .before .before .before .before .before .before .if1 .left in
-    λ unit long y.
+    let s = c .before .before .before .before .before .before .before .before .before .before .before .before .before .before .before .before .before .before in
+    let ks = s .args .kept .now in
+    λ unit long y stands.
     let q = asked (s .args .frame) (s .args .body .now) in
+    let b = sym (c .before .before .before .before .before .before .before .before .before .before .before .before .breaks-off .ensures ∙ ap (λ (h : Hold). breaks h q) (c .before .before .before .before .before .before .before .before .before .before .before .before .before .hold-kept .ensures)) ∙ c .before .before .before .before .before .before .before .before .before .before .before .if1 .left in
     let cfg = configOf unit long (s .args .inputs .now) (s .args .outputs .now) (s .args .calculations .now) (s .args .files .now) (s .args .values .now) in
     let fs = filesIn (s .args .values .now) (s .args .area .now) (s .args .counts .now) in
-    let i = innerOf (s .args .core) (areasOf (s .args .words .now) (s .args .results .now) (s .args .fixed .now) (s .args .block .now)) (s .args .memory) fs in
-    acted-told cfg _ _ _ _ _ q _ y (c .before .before .before .serve .ensures) (step-told cfg i q b (c .before .before .before .before .before .before .before .match .keys3)) (c .told .ensures) refl
+    let i = innerOf (coreIn ks) (areasOf (s .args .words .now) (s .args .results .now) (s .args .fixed .now) (s .args .block .now)) (memoryIn ks) fs in
+    let done = rw (c .before .before .before .before .before .before .before .before .memory-in .ensures) at (c .before .before .before .before .serve .ensures) in
+    acted-told cfg _ _ _ _ _ q _ y done (step-told cfg i q b (c .before .before .before .before .before .before .before .before .before .before .match .keys3)) (c .told .ensures .0) (c .told .ensures .1 stands) refl
 
 same-length-4 : tie.Need-same-length-4
 same-length-4 c = search needs
 
 returns-5 : tie.Need-returns-5
+unfolding coreIn
 returns-5 c =
-    let s = c .before .before .before .before .before .before .before .before .before .before .before .before .before in
-    let b = sym (c .before .before .before .before .before .before .before .before .before .breaks-off .ensures) ∙ c .before .before .before .before .before .before .before .before .if1 .left in
-    λ unit long y.
+    let s = c .before .before .before .before .before .before .before .before .before .before .before .before .before .before .before in
+    let ks = s .args .kept .now in
+    λ unit long y stands.
     let q = asked (s .args .frame) (s .args .body .now) in
+    let b = sym (c .before .before .before .before .before .before .before .before .before .breaks-off .ensures ∙ ap (λ (h : Hold). breaks h q) (c .before .before .before .before .before .before .before .before .before .before .hold-kept .ensures)) ∙ c .before .before .before .before .before .before .before .before .if1 .left in
     let cfg = configOf unit long (s .args .inputs .now) (s .args .outputs .now) (s .args .calculations .now) (s .args .files .now) (s .args .values .now) in
     let fs = filesIn (s .args .values .now) (s .args .area .now) (s .args .counts .now) in
-    let i = innerOf (s .args .core) (areasOf (s .args .words .now) (s .args .results .now) (s .args .fixed .now) (s .args .block .now)) (s .args .memory) fs in
+    let i = innerOf (coreIn ks) (areasOf (s .args .words .now) (s .args .results .now) (s .args .fixed .now) (s .args .block .now)) (memoryIn ks) fs in
     let z = step-tables cfg i q b (c .before .before .before .before .before .before .before .match .keys4) in
-    acted-still (alone-stays i _ z) (acts-scan i _ (tables-tame _ _ _ q) z (fills-as (sym (in-room _ _ (s .pre .0))) (c .before .before .before .scan3 .ensures)) (c .scanned3 .ensures) refl)
+    acted-still (alone-stays i _ z) (acts-scan i _ (tables-tame _ _ _ q) z (fills-as (sym (in-room _ _ (s .pre .0))) (c .before .before .before .scan3 .ensures)) (c .scanned3 .ensures) (readable-written ks stands) refl)
 
 same-length-5 : tie.Need-same-length-5
 same-length-5 c = search needs
 
 returns-6 : tie.Need-returns-6
+unfolding coreIn
 returns-6 c =
-    let s = c .before .before .before .before .before .before .before .before .before .before .before in
-    let b = sym (c .before .before .before .before .before .before .before .breaks-off .ensures) ∙ c .before .before .before .before .before .before .if1 .left in
-    λ unit long y.
+    let s = c .before .before .before .before .before .before .before .before .before .before .before .before .before .before in
+    let ks = s .args .kept .now in
+    λ unit long y stands.
     let q = asked (s .args .frame) (s .args .body .now) in
+    let b = sym (c .before .before .before .before .before .before .before .before .breaks-off .ensures ∙ ap (λ (h : Hold). breaks h q) (c .before .before .before .before .before .before .before .before .before .hold-kept .ensures)) ∙ c .before .before .before .before .before .before .before .if1 .left in
     let cfg = configOf unit long (s .args .inputs .now) (s .args .outputs .now) (s .args .calculations .now) (s .args .files .now) (s .args .values .now) in
     let fs = filesIn (s .args .values .now) (s .args .area .now) (s .args .counts .now) in
-    let i = innerOf (s .args .core) (areasOf (s .args .words .now) (s .args .results .now) (s .args .fixed .now) (s .args .block .now)) (s .args .memory) fs in
-    let z = step-control cfg i q b (c .before .before .before .before .before .match .keys5) in
-    acted-still (alone-stays i _ z) (acts-control i _ (control-tame _ _ q) z (c .before .before .before .control .ensures) (c .controlled .ensures) refl)
+    let i = innerOf (coreIn ks) (areasOf (s .args .words .now) (s .args .results .now) (s .args .fixed .now) (s .args .block .now)) (memoryIn ks) fs in
+    let z = step-control cfg i q b (c .before .before .before .before .before .before .match .keys5) in
+    let ran = rw (c .before .before .before .before .before .before .before .before .before .hold-kept .ensures) at (c .before .before .before .before .control .ensures) in
+    acted-still (alone-stays i _ z) (acts-control i _ (control-tame _ _ q) z ran (c .controlled .ensures .0) (c .controlled .ensures .1 stands) refl)
 
 same-length-6 : tie.Need-same-length-6
 same-length-6 c = search needs
@@ -156,15 +180,17 @@ same-length-7 : tie.Need-same-length-7
 same-length-7 c = search needs
 
 returns-7 : tie.Need-returns-7
+unfolding coreIn
 returns-7 c =
-    let s = c .before .before .before .before .before .before .before .before .before .before .before .before .before .before .before in
-    let b = sym (c .before .before .before .before .before .before .before .before .before .before .before .breaks-off .ensures) ∙ c .before .before .before .before .before .before .before .before .before .before .if1 .left in
-    λ unit long y.
+    let s = c .before .before .before .before .before .before .before .before .before .before .before .before .before .before .before .before .before .before in
+    let ks = s .args .kept .now in
+    λ unit long y stands.
     let q = asked (s .args .frame) (s .args .body .now) in
+    let b = sym (c .before .before .before .before .before .before .before .before .before .before .before .before .breaks-off .ensures ∙ ap (λ (h : Hold). breaks h q) (c .before .before .before .before .before .before .before .before .before .before .before .before .before .hold-kept .ensures)) ∙ c .before .before .before .before .before .before .before .before .before .before .before .if1 .left in
     let cfg = configOf unit long (s .args .inputs .now) (s .args .outputs .now) (s .args .calculations .now) (s .args .files .now) (s .args .values .now) in
     let fs = filesIn (s .args .values .now) (s .args .area .now) (s .args .counts .now) in
-    let i = innerOf (s .args .core) (areasOf (s .args .words .now) (s .args .results .now) (s .args .fixed .now) (s .args .block .now)) (s .args .memory) fs in
-    rw (step-internal cfg i q b (c .before .before .before .before .before .before .before .before .before .match .keys6)) (acted-still (internal-stays cfg i q) (c .before .before .before .before .internal .ensures cfg (s .args .results .now) fs refl))
+    let i = innerOf (coreIn ks) (areasOf (s .args .words .now) (s .args .results .now) (s .args .fixed .now) (s .args .block .now)) (memoryIn ks) fs in
+    rw (step-internal cfg i q b (c .before .before .before .before .before .before .before .before .before .before .match .keys6)) (acted-still (internal-stays cfg i q) (c .before .before .before .before .internal .ensures cfg (s .args .results .now) fs refl stands))
 
 same-length-8 : tie.Need-same-length-8
 same-length-8 c = search needs
@@ -173,40 +199,47 @@ same-length-9 : tie.Need-same-length-9
 same-length-9 c = search needs
 
 returns-8 : tie.Need-returns-8
+unfolding coreIn
 returns-8 c =
-    let s = c .before .before .before .before .before .before .before .before .before .before .before .before in
-    let b = sym (c .before .before .before .before .before .before .before .before .breaks-off .ensures) ∙ c .before .before .before .before .before .before .before .if1 .left in
-    λ unit long y.
+    let s = c .before .before .before .before .before .before .before .before .before .before .before .before .before .before .before in
+    let ks = s .args .kept .now in
+    λ unit long y stands.
     let q = asked (s .args .frame) (s .args .body .now) in
+    let b = sym (c .before .before .before .before .before .before .before .before .before .breaks-off .ensures ∙ ap (λ (h : Hold). breaks h q) (c .before .before .before .before .before .before .before .before .before .before .hold-kept .ensures)) ∙ c .before .before .before .before .before .before .before .before .if1 .left in
     let cfg = configOf unit long (s .args .inputs .now) (s .args .outputs .now) (s .args .calculations .now) (s .args .files .now) (s .args .values .now) in
     let fs = filesIn (s .args .values .now) (s .args .area .now) (s .args .counts .now) in
-    let i = innerOf (s .args .core) (areasOf (s .args .words .now) (s .args .results .now) (s .args .fixed .now) (s .args .block .now)) (s .args .memory) fs in
-    rw (step-return cfg i q b (c .before .before .before .before .before .before .match .keys7)) (acted-still (return-stays i q) (c .before .before .returned .ensures (s .args .words .now) (s .args .results .now) fs))
+    let i = innerOf (coreIn ks) (areasOf (s .args .words .now) (s .args .results .now) (s .args .fixed .now) (s .args .block .now)) (memoryIn ks) fs in
+    rw (step-return cfg i q b (c .before .before .before .before .before .before .before .match .keys7)) (acted-still (return-stays i q) (c .before .before .returned .ensures (s .args .words .now) (s .args .results .now) fs stands))
 
 returns-9 : tie.Need-returns-9
+unfolding coreIn
 returns-9 c =
-    let s = c .before .before .before .before .before .before .before in
-    let b = sym (c .before .before .before .breaks-off .ensures) ∙ c .before .before .if1 .left in
-    λ unit long y.
+    let s = c .before .before .before .before .before .before .before .before .before in
+    let ks = s .args .kept .now in
+    λ unit long y stands.
     let q = asked (s .args .frame) (s .args .body .now) in
+    let b = sym (c .before .before .before .breaks-off .ensures ∙ ap (λ (h : Hold). breaks h q) (c .before .before .before .before .hold-kept .ensures)) ∙ c .before .before .if1 .left in
     let cfg = configOf unit long (s .args .inputs .now) (s .args .outputs .now) (s .args .calculations .now) (s .args .files .now) (s .args .values .now) in
     let fs = filesIn (s .args .values .now) (s .args .area .now) (s .args .counts .now) in
-    let i = innerOf (s .args .core) (areasOf (s .args .words .now) (s .args .results .now) (s .args .fixed .now) (s .args .block .now)) (s .args .memory) fs in
-    let z = step-unknown cfg i q b (c .before .match .rest .0 .0 .0 .0 .0 .0 .1) (c .before .match .rest .0 .0 .0 .0 .0 .1) (c .before .match .rest .0 .0 .0 .0 .1) (c .before .match .rest .0 .0 .0 .1) (c .before .match .rest .0 .0 .1) (c .before .match .rest .0 .1) (c .before .match .rest .1) in
-    acted-still (alone-stays i _ z) (acts-refused i z refl (c .refused2 .ensures) refl)
+    let i = innerOf (coreIn ks) (areasOf (s .args .words .now) (s .args .results .now) (s .args .fixed .now) (s .args .block .now)) (memoryIn ks) fs in
+    let m = c .before .match .rest in
+    let z = step-unknown cfg i q b (m .0 .0 .0 .0 .0 .0 .1) (m .0 .0 .0 .0 .0 .1) (m .0 .0 .0 .0 .1) (m .0 .0 .0 .1) (m .0 .0 .1) (m .0 .1) (m .1) in
+    acted-still (alone-stays i _ z) (acts-refused i z refl (c .refused2 .ensures) (readable-written ks stands) refl)
 
 pub act-spec : {M : Type 1} → statement M
 act-spec =
     tie.close
     (tie.spec
+    hold-kept-requires
     breaks-off-requires
-    with-hold-requires
+    keep-hold-requires
     refused-requires
     returns
     scan-requires
     scanned-requires
     scan-requires-2
     scanned-requires-2
+    memory-in-requires
     serve-requires
     told-requires
     scan-requires-3

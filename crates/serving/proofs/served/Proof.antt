@@ -1,14 +1,22 @@
 -- `serving::served` meets its contract. Assumes nothing.
 use mathlib.Core.Path.{refl}
 use Rattle.model.specs.Frame.{asked}
-use Rattle.events.specs.Kept.{areasOf, innerOf}
 use Rattle.model.specs.Step.{settled}
+use Rattle.numbers.specs.Numbers.{coreIn, memoryIn}
+use Rattle.numbers.proofs.NumbersLaws.{written-readable}
 use Rattle.judge.specs.Judged.{configOf}
 use Rattle.history.specs.Layout.{filesIn}
+use Rattle.events.specs.Kept.{areasOf, innerOf}
 use Rattle.serving.proofs.ServedLaws.{makes-served}
 use borrow.Author.Needs.{needs}
 use Rattle.serving.proofs.served.Statement.{statement}
 use Rattle.serving.proofs.served.Tie as tie
+
+status-in-requires : tie.Need-status-in-requires
+status-in-requires c κs = search needs
+
+port-in-requires : tie.Need-port-in-requires
+port-in-requires c κs = search needs
 
 act-requires : tie.Need-act-requires
 act-requires c κs = search needs
@@ -28,16 +36,26 @@ same-length-2 c = search needs
 returns : tie.Need-returns
 unfolding settled
 returns c =
-    let s = c .before .before .before .before .before .before .before .before .before .before .before .before .before .before .before .before .before .before .before .before in
-    λ unit long y.
+    let s = c .before .before .before .before .before .before .before .before .before .before .before .before .before .before .before .before .before .before .before .before .before .before .before .before .before in
+    let ks = s .args .kept .now in
+    λ unit long y stands.
     let q = asked (s .args .frame) (s .args .body .now) in
     let cfg = configOf unit long (s .args .inputs .now) (s .args .outputs .now) (s .args .calculations .now) (s .args .files .now) (s .args .values .now) in
     let fs = filesIn (s .args .values .now) (s .args .area .now) (s .args .counts .now) in
-    let i = innerOf (s .args .core) (areasOf (s .args .words .now) (s .args .results .now) (s .args .fixed .now) (s .args .block .now)) (s .args .memory) fs in
-    let a = c .before .before .before .before .before .before .before .before .before .before .act .ensures unit long y in
-    record { makes = makes-served cfg i q (s .args .mark) (s .pre .0) (a .acts) (c .before .before .before .finish .ensures) (c .settle .ensures) refl; changed = a .changed }
+    let i = innerOf (coreIn ks) (areasOf (s .args .words .now) (s .args .results .now) (s .args .fixed .now) (s .args .block .now)) (memoryIn ks) fs in
+    let a = c .before .before .before .before .before .before .before .before .before .before .act .ensures unit long y stands in
+    let f = rw (c .before .before .before .before .before .before .before .before .before .before .before .before .before .before .before .before .before .before .before .before .status-in .ensures, c .before .before .before .before .before .before .before .before .before .before .before .before .before .before .before .before .before .before .port-in .ensures) at (c .before .before .before .before .finish .ensures) in
+    record { makes = makes-served cfg i q _ (s .pre .0) (a .acts) f (c .settle .ensures (written-readable (a .acts .kept))) refl; changed = a .changed }
 
 pub served-spec : {M : Type 1} → statement M
 served-spec =
     tie.close
-    (tie.spec act-requires finish-requires settle-requires same-length same-length-2 returns)
+    (tie.spec
+    status-in-requires
+    port-in-requires
+    act-requires
+    finish-requires
+    settle-requires
+    same-length
+    same-length-2
+    returns)

@@ -2,6 +2,8 @@
 use mathlib.Core.Path.{_≡_, refl, sym, _∙_}
 use native.Mathlib.Omega.{arith}
 use lib.ListN.{length}
+use Rattle.numbers.specs.Numbers.{coreIn, memoryIn, portIn}
+use Rattle.numbers.proofs.NumbersLaws.{readable-written}
 use Rattle.judge.specs.Judged.{configOf}
 use Rattle.history.specs.Layout.{filesIn}
 use Rattle.events.specs.Kept.{areasOf, innerOf}
@@ -48,26 +50,30 @@ same-length-2 c = search needs
 
 returns : tie.Need-returns
 returns c =
-    let s = c .before .before .before .before .before .before .before .before .before .before .before .before .before .before .before .before .before .before .before .before .before .before .before .before .before .before in
-    let room : length (s .args .area .now) ≡ 38912 = omega (arith, c .before .before .before .before .before .before .before .before .before .before .before .before .before .before .before .before .before .before .before .before .before .told-long-arg2 .given) in
-    let count : length (s .args .counts .now) ≡ 32 = omega (arith, c .before .before .before .before .before .before .before .before .before .before .before .before .before .before .before .before .before .before .before .told-long-arg4 .given) in
-    λ long v h.
+    let s = c .before .before .before .before .before .before .before .before .before .before .before .before .before .before .before .before .before .before .before .before .before .before .before .before .before .before .before in
+    let ks = s .args .kept .now in
+    let room : length (s .args .area .now) ≡ 38912 = omega (arith, c .before .before .before .before .before .before .before .before .before .before .before .before .before .before .before .before .before .before .before .before .before .before .told-long-arg2 .given) in
+    let count : length (s .args .counts .now) ≡ 32 = omega (arith, c .before .before .before .before .before .before .before .before .before .before .before .before .before .before .before .before .before .before .before .before .told-long-arg4 .given) in
+    λ long v h stands.
     let cfg = configOf (s .args .unit) long (s .args .inputs .now) (s .args .outputs .now) (s .args .calculations .now) (s .args .files .now) (s .args .values .now) in
     let fs = filesIn (s .args .values .now) (s .args .area .now) (s .args .counts .now) in
-    let i = innerOf (s .args .core) (areasOf (s .args .words .now) (s .args .results .now) (s .args .fixed .now) (s .args .block .now)) (s .args .memory) fs in
-    judged-own cfg i (s .args .s .now) (s .args .port .mark) _ (sym (c .before .before .before .before .before .before .before .before .before .before .before .before .before .before .before .before .before .hear .ensures) ∙ c .before .before .before .before .before .before .before .before .before .before .before .before .before .before .before .heard .given .1) (c .before .before .before .before .before .before .before .before .before .before .before .before .before .data-of .ensures) (c .before .before .before .before .before .before .before .before .before .before .before .before .unit-of .ensures) (c .before .before .before .before .before .before .before .before .before .before .before .if1 .taken) (c .before .before .before .before .served .ensures (s .args .unit) long (record { valid = v; fits = h; room = room; long = count }))
+    let i = innerOf (coreIn ks) (areasOf (s .args .words .now) (s .args .results .now) (s .args .fixed .now) (s .args .block .now)) (memoryIn ks) fs in
+    judged-own cfg i (s .args .s .now) (portIn ks .mark) _ (sym (c .before .before .before .before .before .before .before .before .before .before .before .before .before .before .before .before .before .before .hear .ensures) ∙ c .before .before .before .before .before .before .before .before .before .before .before .before .before .before .before .before .heard .given .1) (c .before .before .before .before .before .before .before .before .before .before .before .before .before .before .data-of .ensures) (c .before .before .before .before .before .before .before .before .before .before .before .before .before .unit-of .ensures) (c .before .before .before .before .before .before .before .before .before .before .before .before .if1 .taken)
+    (c .before .before .before .before .served .ensures (s .args .unit) long (record { valid = v; fits = h; room = room; long = count }) stands)
 
 broadcast-requires : tie.Need-broadcast-requires
 broadcast-requires c κs = search needs
 
 returns-2 : tie.Need-returns-2
 returns-2 c =
-    let s = c .before .before .before .before .before .before .before .before .before .before .before .before .before .before .before .before .before .before in
-    λ long v h.
+    let s = c .before .before .before .before .before .before .before .before .before .before .before .before .before .before .before .before .before .before .before in
+    let ks = s .args .kept .now in
+    λ long v h stands.
     let cfg = configOf (s .args .unit) long (s .args .inputs .now) (s .args .outputs .now) (s .args .calculations .now) (s .args .files .now) (s .args .values .now) in
     let fs = filesIn (s .args .values .now) (s .args .area .now) (s .args .counts .now) in
-    let i = innerOf (s .args .core) (areasOf (s .args .words .now) (s .args .results .now) (s .args .fixed .now) (s .args .block .now)) (s .args .memory) fs in
-    judged-all cfg i (s .args .s .now) (s .args .port .mark) _ (sym (c .before .before .before .before .before .before .before .before .before .hear .ensures) ∙ c .before .before .before .before .before .before .before .heard .given .1) (c .before .before .before .before .before .data-of .ensures) (c .before .before .before .before .unit-of .ensures) (c .before .before .before .if1 .left) (c .before .before .if2 .taken) (c .broadcast .ensures cfg (s .args .results .now) (s .args .fixed .now) (s .args .block .now) fs (s .args .port .mark) (s .args .buffer .now) refl)
+    let i = innerOf (coreIn ks) (areasOf (s .args .words .now) (s .args .results .now) (s .args .fixed .now) (s .args .block .now)) (memoryIn ks) fs in
+    judged-all cfg i (s .args .s .now) (portIn ks .mark) _ (sym (c .before .before .before .before .before .before .before .before .before .before .hear .ensures) ∙ c .before .before .before .before .before .before .before .before .heard .given .1) (c .before .before .before .before .before .before .data-of .ensures) (c .before .before .before .before .before .unit-of .ensures) (c .before .before .before .before .if1 .left) (c .before .before .before .if2 .taken)
+    (c .broadcast .ensures cfg (s .args .results .now) (s .args .fixed .now) (s .args .block .now) fs (portIn ks .mark) (s .args .buffer .now) refl stands)
 
 quiet-requires-3 : tie.Need-quiet-requires-3
 quiet-requires-3 c κs = search needs
@@ -75,29 +81,33 @@ quiet-requires-3 c κs = search needs
 returns-3 : tie.Need-returns-3
 returns-3 c =
     let s = c .before .before .before .before .before .before .before .before .before .before .before .before in
-    λ long v h.
+    let ks = s .args .kept .now in
+    λ long v h stands.
     let cfg = configOf (s .args .unit) long (s .args .inputs .now) (s .args .outputs .now) (s .args .calculations .now) (s .args .files .now) (s .args .values .now) in
     let fs = filesIn (s .args .values .now) (s .args .area .now) (s .args .counts .now) in
-    let i = innerOf (s .args .core) (areasOf (s .args .words .now) (s .args .results .now) (s .args .fixed .now) (s .args .block .now)) (s .args .memory) fs in
-    judged-broken cfg i (s .args .s .now) (s .args .port .mark) (sym (c .before .before .before .hear .ensures) ∙ c .before .enum-told .given .1) (c .quiet .ensures)
+    let i = innerOf (coreIn ks) (areasOf (s .args .words .now) (s .args .results .now) (s .args .fixed .now) (s .args .block .now)) (memoryIn ks) fs in
+    judged-broken cfg i (s .args .s .now) (portIn ks .mark) (readable-written ks stands) (sym (c .before .before .before .hear .ensures) ∙ c .before .enum-told .given .1) (c .quiet .ensures)
 
 returns-4 : tie.Need-returns-4
 returns-4 c =
     let s = c .before .before .before .before .before .before .before .before .before .before .before .before in
-    λ long v h.
+    let ks = s .args .kept .now in
+    λ long v h stands.
     let cfg = configOf (s .args .unit) long (s .args .inputs .now) (s .args .outputs .now) (s .args .calculations .now) (s .args .files .now) (s .args .values .now) in
     let fs = filesIn (s .args .values .now) (s .args .area .now) (s .args .counts .now) in
-    let i = innerOf (s .args .core) (areasOf (s .args .words .now) (s .args .results .now) (s .args .fixed .now) (s .args .block .now)) (s .args .memory) fs in
-    judged-wrong cfg i (s .args .s .now) (s .args .port .mark) (sym (c .before .before .before .hear .ensures) ∙ c .before .enum-told2 .given .1) (c .quiet2 .ensures)
+    let i = innerOf (coreIn ks) (areasOf (s .args .words .now) (s .args .results .now) (s .args .fixed .now) (s .args .block .now)) (memoryIn ks) fs in
+    judged-wrong cfg i (s .args .s .now) (portIn ks .mark) (readable-written ks stands) (sym (c .before .before .before .hear .ensures) ∙ c .before .enum-told2 .given .1) (c .quiet2 .ensures)
 
 returns-5 : tie.Need-returns-5
 returns-5 c =
     let s = c .before .before .before .before .before .before .before .before .before .before .before .before .before .before .before .before .before in
-    λ long v h.
+    let ks = s .args .kept .now in
+    λ long v h stands.
     let cfg = configOf (s .args .unit) long (s .args .inputs .now) (s .args .outputs .now) (s .args .calculations .now) (s .args .files .now) (s .args .values .now) in
     let fs = filesIn (s .args .values .now) (s .args .area .now) (s .args .counts .now) in
-    let i = innerOf (s .args .core) (areasOf (s .args .words .now) (s .args .results .now) (s .args .fixed .now) (s .args .block .now)) (s .args .memory) fs in
-    judged-other cfg i (s .args .s .now) (s .args .port .mark) _ (sym (c .before .before .before .before .before .before .before .before .hear .ensures) ∙ c .before .before .before .before .before .before .heard .given .1) (c .before .before .before .before .data-of .ensures) (c .before .before .before .unit-of .ensures) (c .before .before .if1 .left) (c .before .if2 .left) (c .quiet3 .ensures)
+    let i = innerOf (coreIn ks) (areasOf (s .args .words .now) (s .args .results .now) (s .args .fixed .now) (s .args .block .now)) (memoryIn ks) fs in
+    judged-other cfg i (s .args .s .now) (portIn ks .mark) _ (sym (c .before .before .before .before .before .before .before .before .hear .ensures) ∙ c .before .before .before .before .before .before .heard .given .1) (c .before .before .before .before .data-of .ensures) (c .before .before .before .unit-of .ensures) (readable-written ks stands) (c .before .before .if1 .left) (c .before .if2 .left)
+    (c .quiet3 .ensures)
 
 pub judged-spec : {M : Type 1} → statement M
 judged-spec =
