@@ -17,8 +17,8 @@ int main(void)
     for (int file = 0; file < OSTURDAM_FILES; file++)
         store(file, OSTURDAM_ROOM);
     line("a configuration", sizeof(struct osturdam_config), config);
-    line("a unit that holds no record", sizeof(struct osturdam_unit), none);
-    line("a unit that holds 32 records in each of 32 files", sizeof(struct osturdam_unit), rust_bytes(u.rust, &config));
+    line("a unit, what is to be set aside for it", sizeof(struct osturdam_unit), rust_bytes(u.rust, &config));
     printf("| its kept numbers | %zu | %zu | in the unit | |\n", sizeof(struct osturdam_kept), sizeof(struct osturdam_kept));
+    printf("\nThe independent program's unit grows to that from %zu bytes, with no record.\n", none);
     return 0;
 }
