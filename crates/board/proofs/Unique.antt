@@ -8,7 +8,7 @@ use Rattle.model.specs.Config.{Config}
 use Rattle.model.specs.Step.{Event}
 use Rattle.events.specs.Kept.{Owned}
 use Rattle.events.proofs.Unique.{one-telling}
-use Rattle.unit.specs.declared.line.Turn.{Turn}
+use Rattle.commands.specs.declared.Made.{Made}
 use Rattle.unit.proofs.Unique.{one-serve}
 use Rattle.board.specs.declared.Turned.{Turned}
 use Rattle.board.specs.Told.{turnedBy, Shows, Says}
@@ -18,7 +18,7 @@ pub one-showing : (c : Config) (s : List ℕ) (x y z : Owned) (entry : List ℕ)
     → Shows c s x y entry exit r → Shows c s x z entry exit′ t → (r ≡ t) × (exit ≡ exit′) × (y ≡ z)
 one-showing c s x y z entry a b =
     let w = one-serve c s x y z entry (a .serves) (b .serves) in
-    (a .shown ∙ ap (λ (u : Turn). turnedBy (u .sent) (u .outcome) (u .action)) (w .0) ∙ sym (b .shown), w .1, w .2)
+    (a .shown ∙ ap (λ (u : Made). turnedBy (u .sent) (u .outcome) (u .action)) (w .0) ∙ sym (b .shown), w .1, w .2)
 
 -- osturdam_elapsed, osturdam_set_word, osturdam_pulses, osturdam_set_value, osturdam_store_record
 pub one-saying : (c : Config) (e : Event) (x y z : Owned) {n m : ℕ} → Says c e x y n → Says c e x z m → (n ≡ m) × (y ≡ z)

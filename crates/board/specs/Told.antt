@@ -13,7 +13,7 @@ use Rattle.model.specs.declared.Action.the-variants.{Rest, Operate}
 use Rattle.events.specs.Kept.{Owned}
 use Rattle.events.specs.Heed.{Tells}
 use Rattle.unit.specs.Turn.{Serves}
-use Rattle.unit.specs.declared.line.Turn.{Turn}
+use Rattle.commands.specs.declared.Made.{Made}
 use Rattle.board.specs.declared.Turned.{Turned}
 
 -- ---- a stretch
@@ -31,7 +31,7 @@ turnedBy sent o a = record { sent = sent; outcome = numberOf o; action = actionN
 
 -- the turn of the unit's entry, in numbers
 pub record Shows (c : Config) (s : List ℕ) (x y : Owned) (entry exit : List ℕ) (r : Turned) : Type 0 where
-  pub turn : Turn
+  pub turn : Made
   pub serves : Serves c s x y entry exit turn
   pub shown : r ≡ turnedBy (turn .sent) (turn .outcome) (turn .action)
 

@@ -42,7 +42,7 @@ pub struct Step {
     pub count: u16,
 }
 
-// How a frame or damage ended; the port is not seen.
+// How a stretch ended: the outcome, the output action, and how many characters of the buffer are to be sent.
 pub struct Made {
     pub outcome: Outcome,
     pub action: Action,

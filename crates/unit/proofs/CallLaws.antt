@@ -21,7 +21,7 @@ use Rattle.events.specs.Kept.{Kept, stateOf}
 use Rattle.events.specs.Heed.{Heeds}
 use Rattle.unit.specs.Turn.{Turns}
 use Rattle.unit.specs.Calls.{Local, shownBy, answeredBy, Calls, none, heard, heeded}
-use Rattle.unit.specs.declared.line.Turn.{Turn}
+use Rattle.commands.specs.declared.Made.{Made}
 
 -- what the entries of a trace show
 unfoldable pub results : List Entry → List Result
@@ -38,7 +38,7 @@ calls-after c (heeded {es = es} n h cs) = calls-after c cs ∙ ap (λ (s : State
 -- ---- what is shown
 
 -- the reply is the front of the buffer
-shown-turn : (c : Config) {k l : Kept} {s entry exit : List ℕ} {r : Turn} → Turns c s k l entry exit r
+shown-turn : (c : Config) {k l : Kept} {s entry exit : List ℕ} {r : Made} → Turns c s k l entry exit r
     → shownBy r exit ≡ resultOf c (stateOf c k) (stretch (length entry) s)
 shown-turn c {k} {l} {s} {entry} {exit} {r} t =
     let x = resultOf c (stateOf c k) (stretch (length entry) s) in

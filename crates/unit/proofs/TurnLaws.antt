@@ -35,7 +35,6 @@ use Rattle.commands.specs.declared.Made.{Made as MadeOf}
 use Rattle.commands.specs.Acts.{Makes}
 use Rattle.commands.proofs.BroadcastLaws.{makes-quiet}
 use Rattle.serving.specs.Served.{MakesIn}
-use Rattle.unit.specs.declared.line.Turn.{Turn}
 use Rattle.unit.specs.Turn.{Turns, Serves}
 use Rattle.unit.proofs.MarkLaws.{port-judged}
 
@@ -81,7 +80,7 @@ module _ (c : Config) (i : Inner) (s : List ℕ) (mark : Mark) {p : Port} {area 
 
 -- ---- the entry
 
-module _ (c : Config) (s : List ℕ) (k : Kept) (entry : List ℕ) {r : Turn} where
+module _ (c : Config) (s : List ℕ) (k : Kept) (entry : List ℕ) {r : MadeOf} where
   pub turns-short : length entry < longestReply
       → r ≡ record { outcome = BufferShort; action = Rest; sent = 0 } → Turns c s k k entry entry r
   unfolding short turnedAway changeOf
@@ -118,7 +117,7 @@ module _ (c : Config) (s : List ℕ) (k : Kept) (entry : List ℕ) {r : Turn} wh
 
 -- ---- the numbers
 
-module _ (c : Config) (s : List ℕ) (x : Owned) (entry : List ℕ) {r : Turn} where
+module _ (c : Config) (s : List ℕ) (x : Owned) (entry : List ℕ) {r : MadeOf} where
   -- 18 whatever the numbers are
   pub serves-short : length entry < longestReply → r ≡ record { outcome = BufferShort; action = Rest; sent = 0 } → Serves c s x x entry entry r
   serves-short l e =
@@ -136,40 +135,39 @@ module _ (c : Config) (s : List ℕ) (x : Owned) (entry : List ℕ) {r : Turn} w
         unread = λ _. record { shown = rw (le-ltb (length entry) longestReply l) e; written = refl; owned = refl };
       }
 
-  pub serves-made : (y : Owned) {ks exit : List ℕ} (m : MadeOf) → readable (x .numbers) ≡ true → longestReply ≤ length entry → fits c (stateOf c (keptIn x)) ≡ true
-      → MakesIn (judged c (stateOf c (keptIn x) .inner) s (heardOf s)) (changeHeard c (stateOf c (keptIn x) .inner) s (heardOf s)) (portIn (x .numbers) .mark)
-      (areasOf (y .words) (y .results) (y .fixed) (y .block)) (filesIn (c .values) (y .area) (y .counts)) (portIn (x .numbers)) ks
-      (x .area) (x .counts) (y .area) (y .counts) entry exit m
-      → y .numbers ≡ putPort (portBy (portIn (x .numbers)) s (m .outcome)) ks → r ≡ record { outcome = m .outcome; action = m .action; sent = m .sent }
-      → Serves c s x y entry exit r
-  unfolding short makeOf shows moves changeOf changeMade
-  serves-made y {ks} {exit} m g l b v n e =
-      let t : short (stretch (length entry) s) ≡ false = le-ltb (length entry) 520 l in
-      let w = works c (stateOf c (keptIn x)) (stretch (length entry) s) t b in
-      let z = v .makes in
-      let k = port-written (z .kept) n in
-      let port = sym (port-judged c (stateOf c (keptIn x) .inner) s (heardOf s) (portIn (x .numbers)) (m .outcome) (length entry) (z .answered)) in
-      record {
-        read = λ _. rw e (record {
-          turns = record {
-            answered = z .answered ∙ sym (ap (λ (x : Result). x .answer) (w .0));
-            acted = z .acted ∙ sym (ap (λ (x : Result). x .action) (w .0));
-            counted = z .counted ∙ sym (ap (λ (x : Result). length (x .reply)) (w .0));
-            inside = z .inside;
-            written = z .written ∙ sym (ap (λ (x : Result). put entry 0 (x .reply)) (w .0));
-            next = (λ j.
-                record {
-                  inner = innerOf (k .means .core j) (z .areas j) (k .means .memory j) (z .files j);
-                  port = (k .means .port ∙ port) j;
-                })
-                ∙ sym (w .1);
-            changed = rw (t, b) (v .changed);
-          };
-          stand = written-readable k;
-        });
-        unread = λ u. false-true (sym u ∙ g);
-      }
+pub serves-made : (c : Config) (s : List ℕ) (x : Owned) (entry : List ℕ) (y : Owned) {ks exit : List ℕ} (m : MadeOf) → readable (x .numbers) ≡ true → longestReply ≤ length entry → fits c (stateOf c (keptIn x)) ≡ true
+    → MakesIn (judged c (stateOf c (keptIn x) .inner) s (heardOf s)) (changeHeard c (stateOf c (keptIn x) .inner) s (heardOf s)) (portIn (x .numbers) .mark)
+    (areasOf (y .words) (y .results) (y .fixed) (y .block)) (filesIn (c .values) (y .area) (y .counts)) (portIn (x .numbers)) ks
+    (x .area) (x .counts) (y .area) (y .counts) entry exit m
+    → y .numbers ≡ putPort (portBy (portIn (x .numbers)) s (m .outcome)) ks → Serves c s x y entry exit m
+unfolding short makeOf shows moves changeOf changeMade
+serves-made c s x entry y {ks} {exit} m g l b v n =
+    let t : short (stretch (length entry) s) ≡ false = le-ltb (length entry) 520 l in
+    let w = works c (stateOf c (keptIn x)) (stretch (length entry) s) t b in
+    let z = v .makes in
+    let k = port-written (z .kept) n in
+    let port = sym (port-judged c (stateOf c (keptIn x) .inner) s (heardOf s) (portIn (x .numbers)) (m .outcome) (length entry) (z .answered)) in
+    record {
+      read = λ _. record {
+        turns = record {
+          answered = z .answered ∙ sym (ap (λ (x : Result). x .answer) (w .0));
+          acted = z .acted ∙ sym (ap (λ (x : Result). x .action) (w .0));
+          counted = z .counted ∙ sym (ap (λ (x : Result). length (x .reply)) (w .0));
+          inside = z .inside;
+          written = z .written ∙ sym (ap (λ (x : Result). put entry 0 (x .reply)) (w .0));
+          next = (λ j.
+              record {
+                inner = innerOf (k .means .core j) (z .areas j) (k .means .memory j) (z .files j);
+                port = (k .means .port ∙ port) j;
+              })
+              ∙ sym (w .1);
+          changed = rw (t, b) (v .changed);
+        };
+        stand = written-readable k;
+      };
+      unread = λ u. false-true (sym u ∙ g);
+    }
 
 -- what is to be sent lies in the buffer
-pub sent-inside : (c : Config) (s : List ℕ) (x y : Owned) {entry exit : List ℕ} {r : Turn} → Serves c s x y entry exit r → r .sent ≤ length entry
+pub sent-inside : (c : Config) (s : List ℕ) (x y : Owned) {entry exit : List ℕ} {r : MadeOf} → Serves c s x y entry exit r → r .sent ≤ length entry
 sent-inside c s x y h = by-bool (readable (x .numbers)) (λ e. h .read e .turns .inside) (λ e. rw (h .unread e .shown) (omega arith))

@@ -6,7 +6,7 @@ use Prim.Native.Nat.{ℕ}
 use Rattle.model.specs.Config.{Config}
 use Rattle.model.specs.declared.Outcome.{Outcome}
 use Rattle.model.specs.declared.Answer.the-variants.{Ended}
-use Rattle.unit.specs.declared.line.Turn.{Turn}
+use Rattle.commands.specs.declared.Made.{Made}
 use Rattle.model.proofs.Conditions.{by-bool}
 use Rattle.numbers.specs.Numbers.{readable}
 use Rattle.events.specs.Kept.{Owned}
@@ -17,7 +17,7 @@ use Rattle.unit.specs.Fresh.{Freshly}
 ended-same : (o p : Outcome) → Ended o ≡ Ended p → o ≡ p
 ended-same o p e = cc
 
-module _ (c : Config) (s : List ℕ) (x y z : Owned) (entry : List ℕ) {exit exit′ : List ℕ} {r t : Turn} where
+module _ (c : Config) (s : List ℕ) (x y z : Owned) (entry : List ℕ) {exit exit′ : List ℕ} {r t : Made} where
   one-served : Served c s x y entry exit r → Served c s x z entry exit′ t → (r ≡ t) × (exit ≡ exit′) × (y ≡ z)
   one-served a b =
       let f = a .turns in

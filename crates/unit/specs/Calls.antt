@@ -12,24 +12,24 @@ use Rattle.model.specs.declared.Action.the-variants.{Rest}
 use Rattle.events.specs.Kept.{Kept}
 use Rattle.events.specs.Heed.{Heeds}
 use Rattle.unit.specs.Turn.{Turns}
-use Rattle.unit.specs.declared.line.Turn.{Turn}
+use Rattle.commands.specs.declared.Made.{Made}
 
 -- no stretch: time or a local event
 unfoldable pub Local : Event → Type 0
 Local e = (room : ℕ) (s : List ℕ) → e ≡ stretch room s → ⊥
 
 -- what a stretch showed: the reply is the front of the buffer that was to be sent
-abbrev pub shownBy : Turn → List ℕ → Result
+abbrev pub shownBy : Made → List ℕ → Result
 shownBy r exit = record { answer = Ended (r .outcome); action = r .action; reply = take (r .sent) exit }
 
 -- what any other event showed: its answer alone
 abbrev pub answeredBy : Answer → Result
 answeredBy a = record { answer = a; action = Rest; reply = [] }
 
--- calls in turn, each by its entry's contract, on what the one before left
+-- calls in turn, each as its entry has it where the numbers stand, on what the one before left
 pub data Calls (c : Config) : Kept → List Event → List Result → Kept → Type 0 where
   none : {k : Kept} → Calls c k [] [] k
-  heard : {k l m : Kept} {s entry exit : List ℕ} {r : Turn} {es : List Event} {xs : List Result}
+  heard : {k l m : Kept} {s entry exit : List ℕ} {r : Made} {es : List Event} {xs : List Result}
       → Turns c s k l entry exit r → Calls c l es xs m → Calls c k (stretch (length entry) s ∷ es) (shownBy r exit ∷ xs) m
   heeded : {k l m : Kept} {e : Event} {a : Answer} {es : List Event} {xs : List Result}
       → Local e → Heeds c e k l a → Calls c l es xs m → Calls c k (e ∷ es) (answeredBy a ∷ xs) m

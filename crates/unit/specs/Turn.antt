@@ -15,13 +15,13 @@ use Rattle.model.specs.declared.Answer.the-variants.{Ended}
 use Rattle.model.specs.declared.Action.the-variants.{Rest}
 use Rattle.numbers.specs.Numbers.{readable}
 use Rattle.history.specs.Change.{Changed}
-use Rattle.unit.specs.declared.line.Turn.{Turn}
+use Rattle.commands.specs.declared.Made.{Made}
 use Rattle.events.specs.Kept.{Kept, stateOf, Owned, keptIn}
 use Rattle.events.specs.Changes.{changeOf}
 
 -- a stretch that found the unit as k left it as l: what it showed is the definition's result, the buffer holds the reply and is
 -- else as it was, all that is kept is the next state, and every lent character and count of the files is as the change says
-pub record Turns (c : Config) (s : List ℕ) (k l : Kept) (entry exit : List ℕ) (r : Turn) : Type 0 where
+pub record Turns (c : Config) (s : List ℕ) (k l : Kept) (entry exit : List ℕ) (r : Made) : Type 0 where
   pub answered : Ended (r .outcome) ≡ resultOf c (stateOf c k) (stretch (length entry) s) .answer
   pub acted : r .action ≡ resultOf c (stateOf c k) (stretch (length entry) s) .action
   pub counted : r .sent ≡ length (resultOf c (stateOf c k) (stretch (length entry) s) .reply)
@@ -31,17 +31,17 @@ pub record Turns (c : Config) (s : List ℕ) (k l : Kept) (entry exit : List ℕ
   pub changed : Changed (changeOf c (stateOf c k) (stretch (length entry) s)) (k .area) (k .counts) (l .area) (l .counts)
 
 -- the same of a unit in numbers, which stand afterwards
-pub record Served (c : Config) (s : List ℕ) (x y : Owned) (entry exit : List ℕ) (r : Turn) : Type 0 where
+pub record Served (c : Config) (s : List ℕ) (x y : Owned) (entry exit : List ℕ) (r : Made) : Type 0 where
   pub turns : Turns c s (keptIn x) (keptIn y) entry exit r
   pub stand : readable (y .numbers) ≡ true
 
 -- 18, then 17: nothing is changed, sent or operated
-pub record Away (x y : Owned) (entry exit : List ℕ) (r : Turn) : Type 0 where
+pub record Away (x y : Owned) (entry exit : List ℕ) (r : Made) : Type 0 where
   pub shown : r ≡ record { outcome = cond (ltb (length entry) longestReply) BufferShort NotConfigured; action = Rest; sent = 0 }
   pub written : exit ≡ entry
   pub owned : y ≡ x
 
 -- a call found x and left y: served where the numbers are those of a unit, else turned away
-pub record Serves (c : Config) (s : List ℕ) (x y : Owned) (entry exit : List ℕ) (r : Turn) : Type 0 where
+pub record Serves (c : Config) (s : List ℕ) (x y : Owned) (entry exit : List ℕ) (r : Made) : Type 0 where
   pub read : readable (x .numbers) ≡ true → Served c s x y entry exit r
   pub unread : readable (x .numbers) ≡ false → Away x y entry exit r

@@ -2,6 +2,5 @@
 mod line;
 mod start;
 
-pub use line::Turn;
 pub use line::stretch;
 pub use start::fresh;

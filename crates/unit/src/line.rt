@@ -2,7 +2,6 @@
 use commands::Made;
 use commands::broadcast;
 use commands::quiet;
-use model::Action;
 use model::Heard;
 use model::Outcome;
 use model::Reply;
@@ -25,13 +24,6 @@ ghost use Rattle.events.specs.Kept.{areasOf, innerOf, ownedOf};
 ghost use Rattle.events.specs.Changes.{changeHeard};
 ghost use Rattle.serving.specs.Served.{MakesIn};
 ghost use Rattle.unit.specs.Turn.{Serves};
-
-// How a stretch ended: the outcome, the output action, and how many characters of the buffer are to be sent.
-pub struct Turn {
-    pub outcome: Outcome,
-    pub action: Action,
-    pub sent: usize,
-}
 
 // A frame to all units.
 const ALL: u16 = 0x7FF;
@@ -100,29 +92,6 @@ fn judged<'a>(
     }
 }
 
-// Nothing is changed, sent or operated.
-fn away(outcome: Outcome) -> Turn
-    ensures { λ r. ⌜ r ≡ record { outcome = outcome; action = Action.Rest; sent = 0 } ⌝ }
-{
-    Turn {
-        outcome: outcome,
-        action: Action::Rest,
-        sent: 0,
-    }
-}
-
-fn turned(made: Made) -> Turn
-    ensures { λ r. ⌜ r ≡ record { outcome = made .outcome; action = made .action; sent = made .sent } ⌝ }
-{
-    let outcome = made.outcome;
-    let action = made.action;
-    Turn {
-        outcome: outcome,
-        action: action,
-        sent: made.sent,
-    }
-}
-
 pub fn stretch<'a>(
     unit: u16,
     length: usize,
@@ -140,7 +109,7 @@ pub fn stretch<'a>(
     counts: &mut [u8; 32],
     buffer: &mut [u8],
     s: &'a [u8],
-) -> Turn
+) -> Made
     ensures { λ r. ⌜ Serves
         (configOf unit length (now (inputs .entry)) (now (outputs .entry)) (now (calculations .entry)) (now (files .entry)) (now (values .entry)))
         (now (s .entry))
@@ -149,7 +118,7 @@ pub fn stretch<'a>(
         (now (buffer .entry)) (now (buffer .exit)) r ⌝ }
 {
     if buffer.len() < Reply::LONGEST {
-        return away(Outcome::BufferShort);
+        return quiet(Outcome::BufferShort);
     }
     if judge::fits(
         unit,
@@ -182,7 +151,7 @@ pub fn stretch<'a>(
         );
         let outcome = made.outcome;
         mark_port(kept, s, outcome);
-        return turned(made);
+        return made;
     }
-    away(Outcome::NotConfigured)
+    quiet(Outcome::NotConfigured)
 }

@@ -11,14 +11,14 @@ use borrow.Author.Needs.{needs}
 use Rattle.unit.proofs.line.stretch.Statement.{statement}
 use Rattle.unit.proofs.line.stretch.Tie as tie
 
-away-requires : tie.Need-away-requires
-away-requires c κs = search needs
+quiet-requires : tie.Need-quiet-requires
+quiet-requires c κs = search needs
 
 returns : tie.Need-returns
 returns c =
     let s = c .before .before .before .before .before in
     let l : length (s .args .buffer .now) < 520 = omega arith in
-    serves-short _ _ _ (s .args .buffer .now) l (c .away .ensures)
+    serves-short _ _ _ (s .args .buffer .now) l (c .quiet .ensures)
 
 fits-requires : tie.Need-fits-requires
 fits-requires c κs = search needs
@@ -34,9 +34,6 @@ judged-requires c κs =
 mark-port-requires : tie.Need-mark-port-requires
 mark-port-requires c κs = search needs
 
-turned-requires : tie.Need-turned-requires
-turned-requires c κs = search needs
-
 same-length : tie.Need-same-length
 same-length c = search needs
 
@@ -45,20 +42,20 @@ same-length-2 c = search needs
 
 returns-2 : tie.Need-returns-2
 returns-2 c =
-    let s = c .before .before .before .before .before .before .before .before .before .before .before .before .before .before .before .before .before .before .before .before .before .before .before in
+    let s = c .before .before .before .before .before .before .before .before .before .before .before .before .before .before .before .before .before .before .before .before .before .before in
     let cfg = configOf (s .args .unit) (s .args .length) (s .args .inputs .now) (s .args .outputs .now) (s .args .calculations .now) (s .args .files .now) (s .args .values .now) in
     let x = ownedOf (s .args .kept .now) (s .args .words .now) (s .args .results .now) (s .args .fixed .now) (s .args .block .now) (s .args .area .now) (s .args .counts .now) in
-    let l : 520 ≤ length (s .args .buffer .now) = omega (arith, c .before .before .before .before .before .before .before .before .before .before .before .before .before .before .before .before .before .before .before .if1 .left) in
-    let j = c .before .before .before .before .before .before .before .before .before .before .before .before .before .before .before .before .fits2 .ensures in
-    let t = c .before .before .before .before .before .before .before .before .before .before .before .before .before .before .before .if2 .taken in
+    let l : 520 ≤ length (s .args .buffer .now) = omega (arith, c .before .before .before .before .before .before .before .before .before .before .before .before .before .before .before .before .before .before .if1 .left) in
+    let j = c .before .before .before .before .before .before .before .before .before .before .before .before .before .before .before .fits2 .ensures in
+    let t = c .before .before .before .before .before .before .before .before .before .before .before .before .before .before .if2 .taken in
     let stands = judged-stands cfg x refl j t in
     let fits = judged-fits cfg x refl j t in
     let g = in-range cfg (stateOf cfg (keptIn x)) fits in
-    let made = c .before .before .before .before .before .before .before .judged .ensures (s .args .length) (g .valid) (g .history) stands in
-    serves-made cfg (s .args .s .now) x (s .args .buffer .now) _ _ stands l fits made (rw (made .makes .kept .means .port) at (c .before .mark-port .ensures)) (c .turned .ensures)
+    let made = c .before .before .before .before .before .before .judged .ensures (s .args .length) (g .valid) (g .history) stands in
+    serves-made cfg (s .args .s .now) x (s .args .buffer .now) _ _ stands l fits made (rw (made .makes .kept .means .port) at (c .mark-port .ensures))
 
-away-requires-2 : tie.Need-away-requires-2
-away-requires-2 c κs = search needs
+quiet-requires-2 : tie.Need-quiet-requires-2
+quiet-requires-2 c κs = search needs
 
 returns-3 : tie.Need-returns-3
 returns-3 c =
@@ -66,20 +63,19 @@ returns-3 c =
     let cfg = configOf (s .args .unit) (s .args .length) (s .args .inputs .now) (s .args .outputs .now) (s .args .calculations .now) (s .args .files .now) (s .args .values .now) in
     let x = ownedOf (s .args .kept .now) (s .args .words .now) (s .args .results .now) (s .args .fixed .now) (s .args .block .now) (s .args .area .now) (s .args .counts .now) in
     let l : 520 ≤ length (s .args .buffer .now) = omega (arith, c .before .before .before .before .before .if1 .left) in
-    serves-unfit cfg (s .args .s .now) x (s .args .buffer .now) l (judged-unfit cfg x refl (c .before .before .fits2 .ensures) (c .before .if2 .left)) (c .away2 .ensures)
+    serves-unfit cfg (s .args .s .now) x (s .args .buffer .now) l (judged-unfit cfg x refl (c .before .before .fits2 .ensures) (c .before .if2 .left)) (c .quiet2 .ensures)
 
 pub stretch-spec : {M : Type 1} → statement M
 stretch-spec =
     tie.close
     (tie.spec
-    away-requires
+    quiet-requires
     returns
     fits-requires
     judged-requires
     mark-port-requires
-    turned-requires
     same-length
     same-length-2
     returns-2
-    away-requires-2
+    quiet-requires-2
     returns-3)
