@@ -17,6 +17,12 @@ use Rattle.checkword.proofs.Alike.{alike-is, alike-then, alike-steps, a
 use Rattle.checkword.proofs.Parity.{parity-xor, parity-steps, alike-same}
 use Rattle.checkword.proofs.Folding.{shifted}
 
+-- at most eight characters in the high places of 64
+pub in-high : (s : List ℕ) (n : ℕ) → n ≡ length s → n ≤ 8 → bitSteps 64 (line s * 2 ^ (64 - 8 * n)) ≡ checkOf s
+in-high s n e h =
+    let d : 64 ≡ (64 - 8 * n) + 8 * n = omega arith in
+    shifted (8 * n) (64 - 8 * n) (line s) 64 d ∙ ap (λ k. bitSteps (8 * k) (line s)) e ∙ sym (whole 0 s)
+
 -- i characters of s are read: v leaves what they leave, by the second factor, and the ones of a are odd as theirs are
 pub record Read (s : List ℕ) (i v a : ℕ) : Type 0 where
   pub left : Alike (bitSteps 64 v) (checkOf (part s 0 i))
@@ -26,13 +32,7 @@ pub read-head : (s : List ℕ) (n v : ℕ) → n ≤ 8 → n ≤ length s → v 
 read-head s n v h k e = record { left = alike-is c; even = sym (parity-steps 64 v) ∙ ap parity c }
   where
     c : bitSteps 64 v ≡ checkOf (part s 0 n)
-    c =
-        let l : 0 + n ≤ length s = omega arith in
-        let d : 64 ≡ (64 - 8 * n) + 8 * n = omega arith in
-        ap (bitSteps 64) e
-        ∙ shifted (8 * n) (64 - 8 * n) (line (part s 0 n)) 64 d
-        ∙ ap (λ k. bitSteps (8 * k) (line (part s 0 n))) (sym (length-part s 0 n l))
-        ∙ sym (whole 0 (part s 0 n))
+    c = let l : 0 + n ≤ length s = omega arith in ap (bitSteps 64) e ∙ in-high (part s 0 n) n (sym (length-part s 0 n l)) h
 
 pub read-eight : (s : List ℕ) (i v a t w : ℕ) → i + 8 ≤ length s → Read s i v a → Alike (bitSteps 64 t) (bitSteps 64 (bitSteps 64 v))
     → w ≡ line (part s i 8) → Read s (i + 8) (bitXor t w) (bitXor a w)
@@ -49,7 +49,7 @@ read-eight s i v a t w h r turned e =
           ∙ ap parity next;
     }
 
-pub read-end : (s : List ℕ) (i v a r e : ℕ) → i ≡ length s → Read s i v a → Alike r (bitSteps 64 v) → (Alike e r) × (parity e ≡ parity a)
+pub read-end : (s : List ℕ) (i v a r e : ℕ) → i ≡ length s → Read s i v a → r ≡ bitSteps 64 v → (Alike e r) × (parity e ≡ parity a)
     → e ≡ checkOf s
 read-end s i v a r e h k last even =
-    alike-same (alike-then (even .0) (alike-then last (k .left))) (even .1 ∙ k .even) ∙ ap (λ x. checkOf x) (part-whole s i h)
+    alike-same (alike-then (even .0) (alike-then (alike-is last) (k .left))) (even .1 ∙ k .even) ∙ ap (λ x. checkOf x) (part-whole s i h)

@@ -3,13 +3,13 @@
 use mathlib.Core.Path.{_≡_, refl, sym, ap, ap₂, _∙_, subst}
 use mathlib.Core.List.{List, [], _∷_, _++_}
 use Prim.Native.Nat.{ℕ, suc, _+_, _-_, _*_, _/_, _%_, _^_, _≤_, _<_}
-use native.Mathlib.Nat.{zero-div, add-comm, lt-of-lt-of-le, mod-eq-of-lt, add-mul-mod-self-right}
+use native.Mathlib.Nat.{zero-add, zero-div, add-comm, mul-assoc, mod-eq-of-lt, add-mul-mod-self-right}
 use native.Mathlib.Decide.{decLt}
 use native.Mathlib.Omega.{arith}
-use lib.ListN.{length, take, drop, getD, length-drop}
+use lib.ListN.{length, take, drop, getD}
 use lib.Seq.{drop-cons}
 use lib.Bits.{xor-comm, xor-zero-r, xor-shifted}
-use lib.Pow.{pow-add, pow-mono, shr-shr, high}
+use lib.Pow.{pow-add, shl-shr, shr-shr, high}
 use Rattle.chars.specs.Put.{part}
 use Rattle.chars.specs.Word.{Characters}
 use Rattle.chars.proofs.PutLaws.{length-part, part-add, part-whole}
@@ -132,13 +132,22 @@ line-ends s hs n e h k =
     ∙ line-join s hs 0 4 m first
     ∙ ap (λ x. line (part s 0 4) + x * 2 ^ 32) (sym rest)
 
--- one character more, from the end on
-pub line-drop : (s : List ℕ) → Characters s → (i j : ℕ) → i < length s → j ≡ suc i → 256 * line (drop j s) + getD s i 0 ≡ line (drop i s)
-line-drop s hs i j h e =
-    ap (λ k. 256 * line (drop k s) + getD s i 0) e
-    ∙ omega (arith, ap line (drop-cons s i 0 h), line-cons (getD s i 0) (drop (suc i) s) (hs i))
-
-pub few-lt : (s : List ℕ) → Characters s → length s < 4 → (i : ℕ) → line (drop i s) < 2 ^ 24
-few-lt s hs h i =
-    let l : 8 * length (drop i s) ≤ 24 = omega (arith, length-drop i s) in
-    lt-of-lt-of-le (line-lt (drop i s) (characters-drop i s hs)) (pow-mono l)
+-- one character more comes in at the top of 64 places
+pub line-top : (s : List ℕ) → Characters s → (i v : ℕ) → i < length s → i < 8 → v ≡ line (part s 0 i) * 2 ^ (64 - 8 * i)
+    → v / 256 + 2 ^ 56 * getD s i 0 ≡ line (part s 0 (i + 1)) * 2 ^ (64 - 8 * (i + 1))
+line-top s hs i v h l e =
+    let k = 64 - 8 * (i + 1) in
+    let a = line (part s 0 i) in
+    let c = getD s i 0 in
+    let reach : 0 + i ≤ length s = omega arith in
+    let more : line (part s 0 (i + 1)) ≡ a + c * 2 ^ (8 * i) =
+    line-join s hs 0 i 1 reach ∙ ap (λ x. a + x * 2 ^ (8 * i)) (ap (λ j. line (part s j 1)) (zero-add i) ∙ line-one s i h) in
+    let m : 64 - 8 * i ≡ k + 8 = omega arith in
+    let n : 8 * i + k ≡ 56 = omega arith in
+    let up : 2 ^ (64 - 8 * i) ≡ 2 ^ k * 2 ^ 8 = ap (λ x. 2 ^ x) m ∙ pow-add 2 k 8 in
+    let top : 2 ^ (8 * i) * 2 ^ k ≡ 2 ^ 56 = sym (pow-add 2 (8 * i) k) ∙ ap (λ x. 2 ^ x) n in
+    let old : v / 256 ≡ a * 2 ^ k =
+    ap (λ x. x / 256) (e ∙ ap (λ x. a * x) up ∙ sym (mul-assoc a (2 ^ k) (2 ^ 8))) ∙ shl-shr (a * 2 ^ k) 8 in
+    let new : c * 2 ^ (8 * i) * 2 ^ k ≡ c * 2 ^ 56 = mul-assoc c (2 ^ (8 * i)) (2 ^ k) ∙ ap (λ x. c * x) top in
+    let joined : v / 256 + 2 ^ 56 * c ≡ (a + c * 2 ^ (8 * i)) * 2 ^ k = omega (arith, old, new) in
+    joined ∙ ap (λ x. x * 2 ^ k) (sym more)

@@ -5,37 +5,27 @@ mod table;
 use reading::all;
 use reading::eight;
 use reading::head;
-use table::by_table;
+use table::divided;
 ghost use mathlib.Core.Path.{_≡_};
-ghost use Prim.Native.Nat.{_≤_, _<_};
+ghost use Prim.Native.Nat.{_≤_};
 ghost use lib.ListN.{length};
 ghost use Rattle.checkword.specs.Check.{bitSteps, checkOf};
 ghost use Rattle.checkword.specs.Alike.{Alike, Folded, parity};
 
-// By x^15 + x + 1 a bit is worth the bits 15 and 14 places up, and so those 30 and 28 places up.
-fn fold(v: u64, k: usize) -> u64
-    requires { ⌜ (0 < k) × (k ≤ 2) ⌝ }
-    ensures { λ r. ⌜ Folded k v r ⌝ }
+// By x^15 + x + 1 a bit is worth the bits 30 and 28 places up.
+fn fold(v: u64) -> u64
+    ensures { λ r. ⌜ Folded v r ⌝ }
 {
-    let x = v << (15 * k);
-    let n = 64 - 15 * k;
-    (x ^ (x >> k)) ^ ((v >> n) << n)
+    let x = v << 30;
+    (x ^ (x >> 2)) ^ ((v >> 34) << 34)
 }
 
 // Eight characters more are divided: by x^15 + x + 1 that is 64 places as the sum of 8 and 4.
 fn turn(v: u64) -> u64
     ensures { λ r. ⌜ Alike (bitSteps 64 r) (bitSteps 64 (bitSteps 64 v)) ⌝ }
 {
-    let y = fold(v, 2);
+    let y = fold(v);
     (y >> 4) ^ (y >> 8)
-}
-
-// The 64 places folded to the last two characters, which the table divides.
-fn last(v: u64) -> u16
-    ensures { λ r. ⌜ Alike r (bitSteps 64 v) ⌝ }
-{
-    let y = fold(fold(fold(v, 2), 1), 1);
-    by_table(y >> 48, 2)
 }
 
 // The other factor, x + 1: x^15 + x + 1 itself makes the ones odd or even as those of a.
@@ -48,7 +38,7 @@ fn evened(r: u16, a: u64) -> u16
     r
 }
 
-// The list is folded to its last eight characters, one load a turn, and those to two, which the table works.
+// The list is folded to its last eight characters, one load a turn, and those the table works.
 fn folded(s: &[u8]) -> u16
     requires { ⌜ 8 ≤ length (now s) ⌝ }
     ensures { λ r. ⌜ r ≡ checkOf (now (s .entry)) ⌝ }
@@ -62,7 +52,7 @@ fn folded(s: &[u8]) -> u16
         a = a ^ w;
         i += 8;
     }
-    evened(last(v), a)
+    evened(divided(v), a)
 }
 
 // Fewer characters are one number, which the table divides for less than folding costs (bench/checkword has the counts).
@@ -75,5 +65,5 @@ pub extern "C" fn check_word(s: &[u8]) -> u16
     if s.len() >= LONG {
         return folded(s);
     }
-    by_table(all(s), s.len())
+    divided(all(s))
 }

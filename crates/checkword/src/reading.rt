@@ -34,33 +34,34 @@ pub fn eight(s: &[u8], i: usize) -> u64
     (four(s, i) as u64) + 4294967296 * (four(s, i + 4) as u64)
 }
 
-// Fewer than four characters, the last one first.
+// Fewer than four characters, in the high places: each comes in at the top.
 fn few(s: &[u8]) -> u64
     requires { ⌜ length (now s) < 4 ⌝ }
-    ensures { λ r. ⌜ r ≡ line (now (s .entry)) ⌝ }
+    ensures { λ r. ⌜ r ≡ line (now (s .entry)) * 2 ^ (64 - 8 * length (now (s .entry))) ⌝ }
 {
     let mut v: u64 = 0;
-    let mut i = s.len();
-    while i > 0 {
-        i -= 1;
-        v = 256 * v + (pair(s[i], 0) as u64);
+    let mut i = 0;
+    while i < s.len() {
+        v = (v >> 8) + 72057594037927936 * (pair(s[i], 0) as u64);
+        i += 1;
     }
     v
 }
 
-// Four to eight characters: the first four, and those of the last four that come after them.
+// Four to eight characters, in the high places: the first four, and those of the last four that come after them.
 fn several(s: &[u8]) -> u64
     requires { ⌜ (4 ≤ length (now s)) × (length (now s) ≤ 8) ⌝ }
-    ensures { λ r. ⌜ r ≡ line (now (s .entry)) ⌝ }
+    ensures { λ r. ⌜ r ≡ line (now (s .entry)) * 2 ^ (64 - 8 * length (now (s .entry))) ⌝ }
 {
     let n = s.len();
-    (four(s, 0) as u64) + (((four(s, n - 4) as u64) >> (64 - 8 * n)) << 32)
+    let k = 64 - 8 * n;
+    ((four(s, 0) as u64) + (((four(s, n - 4) as u64) >> k) << 32)) << k
 }
 
-// All characters of a list of at most eight.
+// All characters of a list of at most eight, in the high places.
 pub fn all(s: &[u8]) -> u64
     requires { ⌜ length (now s) ≤ 8 ⌝ }
-    ensures { λ r. ⌜ r ≡ line (now (s .entry)) ⌝ }
+    ensures { λ r. ⌜ r ≡ line (now (s .entry)) * 2 ^ (64 - 8 * length (now (s .entry))) ⌝ }
 {
     if s.len() < 4 {
         return few(s);

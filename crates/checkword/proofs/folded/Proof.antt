@@ -51,8 +51,8 @@ loop-again c =
     let h : l .i + 8 ≤ length s = omega arith in
     (h, omega arith, read-eight s (l .i) (l .v) (l .a) _ _ h (l .inv .2) (c .turn .ensures) (c .before .eight .ensures))
 
-last-requires : tie.Need-last-requires Inv-loop μ-loop
-last-requires c κs = search needs
+divided-requires : tie.Need-divided-requires Inv-loop μ-loop
+divided-requires c κs = search needs
 
 evened-requires : tie.Need-evened-requires Inv-loop μ-loop
 evened-requires c κs = search needs
@@ -62,7 +62,7 @@ returns c =
     let l = c .before .before .before .loop in
     let s = c .before .before .before .before .before .before .args .s .now in
     let e : l .i ≡ length s = omega arith in
-    read-end s (l .i) (l .v) (l .a) _ _ e (l .inv .2) (c .before .last .ensures) (c .evened .ensures)
+    read-end s (l .i) (l .v) (l .a) _ _ e (l .inv .2) (c .before .divided .ensures) (c .evened .ensures)
 
 pub folded-spec : {M : Type 1} → statement M
 folded-spec =
@@ -79,6 +79,6 @@ folded-spec =
     add-i-2
     loop-less
     loop-again
-    last-requires
+    divided-requires
     evened-requires
     returns)
