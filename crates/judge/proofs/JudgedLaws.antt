@@ -1,30 +1,45 @@
 -- Laws of judging: a test that a loop has every number of a run pass, one by one, and what stands in for the records.
 -- Assumes nothing.
 use mathlib.Core.Path.{_≡_, refl, sym, ap, _∙_}
-use Prim.Native.Nat.{ℕ, zero, suc, _+_, _<_, _≤_}
+use Prim.Native.Nat.{ℕ, zero, suc, _+_, _*_, _%_, _<_, _≤_}
 use native.Mathlib.Numerals.{add-one}
+use native.Mathlib.Nat.{mod-eq-of-lt}
 use native.Mathlib.Omega.{arith}
 use mathlib.Core.List.{List, [], _∷_, _++_}
-use mathlib.Core.Bool.{Bool, true, false, _&&_}
+use mathlib.Core.Bool.{Bool, true, false, _&&_, and-assoc, and-true, and-false}
 use lib.ListN.{length, getD, length-replicate, drop, length-drop, List·getD-eq-default}
 use lib.Seq.{take-all}
 use lib.Dec.{eqb, leb, ltb}
 use lib.Bits.{bitOr, or-zero-l, or-add-and, and-le-r}
-use borrow.Author.Tests.{ltb-true, ltb-false, lt-ltb, le-leb, lt-leb, eq-eqb, ne-eqb}
+use borrow.Author.Tests.{ltb-true, ltb-false, eqb-true, lt-ltb, le-leb, lt-leb, eq-eqb, ne-eqb}
 use Rattle.chars.specs.Put.{part}
 use Rattle.chars.specs.Gather.{upFrom}
 use Rattle.chars.proofs.PutLaws.{part-none, part-more}
 use Rattle.chars.proofs.GatherLaws.{up-none, up-more}
 use Rattle.model.specs.Config.{Config, has, within, hasFile, every, noneIn, fileValid, validOf}
 use Rattle.model.specs.State.{Areas, Files, heldIn}
+use Rattle.model.specs.Clock.{clockFits}
 use Rattle.model.specs.Fits.{fits, areasFit, coreFits, portFits, historyFits, memoryFits, replyFits, fileFits}
 use Rattle.model.specs.declared.Core.{Core}
 use Rattle.model.specs.declared.HistoryReply.{HistoryReply}
 use Rattle.model.specs.declared.Memory.{Memory}
 use Rattle.model.specs.declared.Memory.the-variants.{Nothing, Remembered}
 use Rattle.model.specs.declared.Port.{Port}
-use Rattle.model.proofs.Conditions.{by-bool, every-append, and-left}
-use Rattle.judge.specs.Judged.{filesBy, keptBy, fitsBy}
+use Rattle.model.proofs.Conditions.{by-bool, every-append, and-left, and-right, and-both}
+use Rattle.numbers.specs.Numbers.{clockIn, coreIn, memoryIn}
+use Rattle.numbers.proofs.RangeLaws.{same-bool, readable-parts}
+use Rattle.judge.specs.Judged.{
+  filesBy,
+  keptBy,
+  fitsBy,
+  fitsIn,
+  clockJudged,
+  holdJudged,
+  writeJudged,
+  bitsJudged,
+  memoryJudged,
+  portJudged,
+}
 
 -- ---- tests in a row: the answer x where the first was passed, and where it was not
 
@@ -36,14 +51,6 @@ module _ {a x : Bool} where
   and-off b p q = rw p q
 
 -- ---- a flag that is true as long as every number passed
-
-and-true : (b : Bool) → (b && true) ≡ b
-and-true true = refl
-and-true false = refl
-
-and-false : (b : Bool) → (b && false) ≡ false
-and-false true = refl
-and-false false = refl
 
 every-end : (f : ℕ → Bool) (ns : List ℕ) (n : ℕ) → every f (ns ++ (n ∷ [])) ≡ (every f ns && f n)
 unfolding every
@@ -168,7 +175,7 @@ module _ (c : Config) (fs gs : Files) (same : (f : ℕ) → f < 32 → length (h
   history-same m = rw (every-same (fileFits c fs) (fileFits c gs) 32 file-same, memory-same m)
 
 -- the parts of the judgement, in their order
-pub fits-parts : (c : Config) (lent : ℕ) (counts : List ℕ) (core : Core) (memory : Memory) (port : Port)
+fits-parts : (c : Config) (lent : ℕ) (counts : List ℕ) (core : Core) (memory : Memory) (port : Port)
     → fitsBy c lent counts core memory port
     ≡ (validOf c && (portFits port && (coreFits c core && (eqb lent (c .block) && historyFits c (record { memory = memory; files = filesBy counts })))))
 unfolding fitsBy keptBy fits areasFit
@@ -183,3 +190,72 @@ pub fits-by : (c : Config) (lent : ℕ) (counts : List ℕ) (core : Core) (memor
 unfolding fits areasFit
 fits-by c lent counts core memory port areas fs e same =
     rw (fits-parts, e, history-same c fs (filesBy counts) (λ f h. same f h ∙ sym (held-by counts f)) memory)
+
+-- ---- numbers in place of what they mean
+
+-- four numbers as one, which is 0 where each of them is
+abbrev four : ℕ → ℕ → ℕ → ℕ → ℕ
+four a b c d = a + b * 0x10000 + c * 0x100000000 + d * 0x1000000000000
+
+pub zeros-one : {a b c d w x y z : ℕ} → w ≡ a → x ≡ b → y ≡ c → z ≡ d
+    → eqb (four w x y z) 0 ≡ (eqb a 0 && eqb b 0 && eqb c 0 && eqb d 0)
+zeros-one {a} {b} {c} {d} {w} {x} {y} {z} p q r s =
+    same-bool (eqb (four w x y z) 0) (eqb a 0 && eqb b 0 && eqb c 0 && eqb d 0)
+    (λ e. let n : four w x y z ≡ 0 = eqb-true (four w x y z) 0 e in
+    and-both (and-both (and-both (eq-eqb a 0 (omega arith)) (eq-eqb b 0 (omega arith))) (eq-eqb c 0 (omega arith))) (eq-eqb d 0 (omega arith)))
+    (λ e. let three = and-left (eqb a 0 && eqb b 0 && eqb c 0) (eqb d 0) e in
+    let two = and-left (eqb a 0 && eqb b 0) (eqb c 0) three in
+    let k : a ≡ 0 = eqb-true a 0 (and-left (eqb a 0) (eqb b 0) two) in
+    let l : b ≡ 0 = eqb-true b 0 (and-right (eqb a 0) (eqb b 0) two) in
+    let m : c ≡ 0 = eqb-true c 0 (and-right (eqb a 0 && eqb b 0) (eqb c 0) three) in
+    let n : d ≡ 0 = eqb-true d 0 (and-right (eqb a 0 && eqb b 0 && eqb c 0) (eqb d 0) e) in
+    eq-eqb (four w x y z) 0 (omega arith))
+
+-- a number up to a limit below 256 is a byte, up to that limit
+byte-low : (k n : ℕ) → k < 256 → leb n k ≡ (ltb n 256 && leb (n % 256) k)
+byte-low k n l =
+    by-bool (ltb n 256) (λ e. rw (e, mod-eq-of-lt (ltb-true n 256 e)))
+    (λ e. rw e (lt-leb n k (omega (arith, ltb-false n 256 e))))
+
+bytes-first : (a b c d e x y z t : Bool)
+    → (d && e && (a && x) && (b && y) && (c && z) && t) ≡ ((a && b && c) && ((d && e) && (x && (y && (z && t)))))
+bytes-first true true true d e x y z t = simp and-assoc
+bytes-first false b c d e x y z t = simp and-false
+bytes-first true false c d e x y z t = simp and-false
+bytes-first true true false d e x y z t = simp and-false
+
+pub clock-judged : (ks : List ℕ)
+    → (leb 1 (getD ks 0 0) && leb (getD ks 0 0) 366 && leb (getD ks 1 0) 23 && leb (getD ks 2 0) 59 && leb (getD ks 3 0) 59 && leb (getD ks 4 0) 999)
+    ≡ clockJudged ks
+unfolding clockJudged clockFits clockIn within
+clock-judged ks =
+    rw (byte-low 23 (getD ks 1 0) (omega arith), byte-low 59 (getD ks 2 0) (omega arith), byte-low 59 (getD ks 3 0) (omega arith), bytes-first)
+
+-- ---- the judgement in the order of the code
+
+turned : (a h w b m k u n x y z v p t g s l f r : Bool)
+    → ((a && (h && (w && (b && (m && k))))) && ((u && (n && (x && (y && (z && v))))) && (p && ((t && (g && s)) && (l && (f && r))))))
+    ≡ ((a && t) && ((h && g) && ((w && s) && (b && ((k && p) && (u && (n && (l && (x && (y && (z && (v && (f && (m && r))))))))))))))
+turned true true true true true true true true true true true true true t g s l f r = simp and-assoc
+turned false h w b m k u n x y z v p t g s l f r = refl
+turned true false w b m k u n x y z v p t g s l f r = simp and-false
+turned true true false b m k u n x y z v p t g s l f r = simp and-false
+turned true true true false m k u n x y z v p t g s l f r = simp and-false
+turned true true true true false k u n x y z v p t g s l f r = simp and-false
+turned true true true true true false u n x y z v p t g s l f r = simp and-false
+turned true true true true true true false n x y z v p t g s l f r = simp and-false
+turned true true true true true true true false x y z v p t g s l f r = simp and-false
+turned true true true true true true true true false y z v p t g s l f r = simp and-false
+turned true true true true true true true true true false z v p t g s l f r = simp and-false
+turned true true true true true true true true true true false v p t g s l f r = simp and-false
+turned true true true true true true true true true true true false p t g s l f r = simp and-false
+turned true true true true true true true true true true true true false t g s l f r = simp and-false
+
+pub in-turn : (c : Config) (lent : ℕ) (counts ks : List ℕ) → length ks ≡ 26
+    → fitsIn c lent counts ks
+    ≡ (clockJudged ks && (holdJudged c ks && (writeJudged ks && (bitsJudged ks && (portJudged ks
+    && (leb (c .unit) 0x7FE && (leb (c .block) 512 && (eqb lent (c .block)
+    && (noneIn (c .inputs) 0x20 16 && (noneIn (c .inputs) 0x60 32 && (noneIn (c .calculations) 0x80 128
+    && (every (fileValid c) (upFrom 0 32) && (every (fileFits c (filesBy counts)) (upFrom 0 32) && memoryJudged c counts ks)))))))))))))
+unfolding fitsIn validOf coreFits historyFits coreIn memoryIn clockJudged holdJudged writeJudged bitsJudged memoryJudged portJudged
+in-turn c lent counts ks l = rw (readable-parts ks l, fits-parts, turned)

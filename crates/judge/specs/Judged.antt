@@ -2,11 +2,32 @@
 use Prim.Native.Nat.{ℕ}
 use mathlib.Core.List.{List, [], map}
 use mathlib.Core.Bool.{Bool, _&&_}
-use lib.ListN.{replicate}
+use lib.ListN.{getD, replicate}
+use lib.Dec.{ltb}
+use Rattle.model.specs.Clock.{clockFits}
 use Rattle.model.specs.Config.{Config}
 use Rattle.model.specs.State.{Files, State}
-use Rattle.model.specs.Fits.{fits}
-use Rattle.numbers.specs.Numbers.{coreIn, memoryIn, portIn, readable}
+use Rattle.model.specs.Fits.{fits, holdFits, writeFits, memoryFits, portFits}
+use Rattle.numbers.specs.Numbers.{
+  holdNumbers,
+  writeNumbers,
+  memoryNumbers,
+  holdPlaces,
+  writePlaces,
+  memoryPlaces,
+  holdIn,
+  writeIn,
+  replyIn,
+  clockIn,
+  holdAt,
+  writeAt,
+  memoryAt,
+  coreIn,
+  memoryIn,
+  portIn,
+  same,
+  readable,
+}
 use Rattle.model.specs.declared.Core.{Core}
 use Rattle.model.specs.declared.Memory.{Memory}
 use Rattle.model.specs.declared.Port.{Port}
@@ -39,3 +60,24 @@ fitsBy c lent counts core memory port = fits c (keptBy lent counts core memory p
 -- the same of kept numbers: they are those of a unit, which fits
 unfoldable pub fitsIn : Config → ℕ → List ℕ → List ℕ → Bool
 fitsIn c lent counts ks = readable ks && fitsBy c lent counts (coreIn ks) (memoryIn ks) (portIn ks)
+
+-- ---- the same part by part: numbers that a unit writes for what they mean, which is in range
+
+unfoldable pub clockJudged : List ℕ → Bool
+clockJudged ks = (ltb (getD ks 1 0) 256 && ltb (getD ks 2 0) 256 && ltb (getD ks 3 0) 256) && clockFits (clockIn ks)
+
+unfoldable pub holdJudged : Config → List ℕ → Bool
+holdJudged c ks = same (holdPlaces (holdNumbers (holdIn (holdAt ks)))) (holdPlaces (holdAt ks)) && holdFits c (holdIn (holdAt ks))
+
+unfoldable pub writeJudged : List ℕ → Bool
+writeJudged ks = same (writePlaces (writeNumbers (writeIn (writeAt ks)))) (writePlaces (writeAt ks)) && writeFits (writeIn (writeAt ks))
+
+unfoldable pub bitsJudged : List ℕ → Bool
+bitsJudged ks = ltb (getD ks 15 0) 2 && ltb (getD ks 16 0) 2 && ltb (getD ks 17 0) 2
+
+unfoldable pub memoryJudged : Config → List ℕ → List ℕ → Bool
+memoryJudged c counts ks =
+    same (memoryPlaces (memoryNumbers (replyIn (memoryAt ks)))) (memoryPlaces (memoryAt ks)) && memoryFits c (filesBy counts) (memoryIn ks)
+
+unfoldable pub portJudged : List ℕ → Bool
+portJudged ks = ltb (getD ks 25 0) 3 && portFits (portIn ks)

@@ -4,11 +4,11 @@ use Prim.Native.Nat.{ℕ, _%_, _<_}
 use native.Mathlib.Omega.{arith}
 use native.Mathlib.Nat.{mod-eq-of-lt}
 use mathlib.Core.List.{List}
-use mathlib.Core.Bool.{Bool, true, false, not, _&&_, and-assoc, and-true}
+use mathlib.Core.Bool.{Bool, true, false, _&&_, and-assoc, and-true}
 use lib.ListN.{length, getD}
 use lib.Dec.{eqb, ltb}
 use borrow.Author.Tests.{eqb-true, eq-eqb, ne-eqb, ltb-true, lt-ltb}
-use Rattle.model.proofs.Conditions.{by-eqb, false-true}
+use Rattle.model.proofs.Conditions.{by-eqb}
 use Rattle.numbers.specs.declared.HoldNumbers.{HoldNumbers}
 use Rattle.numbers.specs.declared.WriteNumbers.{WriteNumbers}
 use Rattle.numbers.specs.declared.MemoryNumbers.{MemoryNumbers}
@@ -38,7 +38,7 @@ use Rattle.numbers.specs.Numbers.{
 }
 use Rattle.numbers.proofs.NumbersLaws.{firsts, all-firsts}
 
-same-bool : (a b : Bool) → (a ≡ true → b ≡ true) → (b ≡ true → a ≡ true) → a ≡ b
+pub same-bool : (a b : Bool) → (a ≡ true → b ≡ true) → (b ≡ true → a ≡ true) → a ≡ b
 same-bool true b f g = sym (f refl)
 same-bool false true f g = g refl
 same-bool false false f g = refl
@@ -115,8 +115,8 @@ module _ (n : MemoryNumbers) where
   unfolding replyIn memoryNumbers same
   memory-none p q = rw (ne-eqb (n .memory) 0 p, ne-eqb 1 (n .memory) (λ e. q (sym e)))
 
--- the parts together, in the order in which they are told
-abbrev Parts : List ℕ → Type 0
+-- the parts together
+abbrev pub Parts : List ℕ → Type 0
 Parts ks =
     readable ks
     ≡ ((ltb (getD ks 1 0) 256 && ltb (getD ks 2 0) 256 && ltb (getD ks 3 0) 256)
@@ -131,26 +131,3 @@ firsts-parts ks = simp (byte-same, bit-same, mark-same, eqb-same, and-assoc, and
 
 pub readable-parts : (ks : List ℕ) → length ks ≡ 26 → Parts ks
 readable-parts ks l = subst Parts (sym (all-firsts 26 ks l)) (firsts-parts ks)
-
--- a part read from the numbers
-module _ {x : Bool} where
-  pub held : {n m : HoldNumbers} → n ≡ m → x ≡ same (holdPlaces (holdNumbers (holdIn n))) (holdPlaces n)
-      → x ≡ same (holdPlaces (holdNumbers (holdIn m))) (holdPlaces m)
-  held e p = rw e at p
-
-  pub waited : {n m : WriteNumbers} → n ≡ m → x ≡ same (writePlaces (writeNumbers (writeIn n))) (writePlaces n)
-      → x ≡ same (writePlaces (writeNumbers (writeIn m))) (writePlaces m)
-  waited e p = rw e at p
-
-  pub remembered : {n m : MemoryNumbers} → n ≡ m → x ≡ same (memoryPlaces (memoryNumbers (replyIn n))) (memoryPlaces n)
-      → x ≡ same (memoryPlaces (memoryNumbers (replyIn m))) (memoryPlaces m)
-  remembered e p = rw e at p
-
--- a part that does not stand ends the telling, and one that stands leaves it to the rest
-pub stops : (x : Bool) {a : Bool} (b : Bool) → x ≡ a → not x ≡ true → false ≡ (a && b)
-stops true b p q = false-true q
-stops false b p q = rw (← p)
-
-pub goes : (x : Bool) {a b r : Bool} → x ≡ a → not x ≡ false → r ≡ b → r ≡ (a && b)
-goes true p q s = rw (← p) s
-goes false p q s = false-true (sym q)
