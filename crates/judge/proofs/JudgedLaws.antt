@@ -1,17 +1,17 @@
--- Laws of judging: a test that a loop has every number of a run pass, one by one, and what stands in for the records.
+-- Laws of judging: tests that every number of a run passes, what stands in for the records, and the parts in the order of the code.
 -- Assumes nothing.
 use mathlib.Core.Path.{_≡_, refl, sym, ap, _∙_}
-use Prim.Native.Nat.{ℕ, zero, suc, _+_, _*_, _%_, _<_, _≤_}
+use Prim.Native.Nat.{ℕ, zero, suc, _+_, _-_, _*_, _%_, _<_, _≤_}
 use native.Mathlib.Numerals.{add-one}
 use native.Mathlib.Nat.{mod-eq-of-lt}
 use native.Mathlib.Omega.{arith}
 use mathlib.Core.List.{List, [], _∷_, _++_}
-use mathlib.Core.Bool.{Bool, true, false, _&&_, and-assoc, and-true, and-false}
+use mathlib.Core.Bool.{Bool, true, false, cond, _&&_, and-assoc, and-true, and-false}
 use lib.ListN.{length, getD, length-replicate, drop, length-drop, List·getD-eq-default}
 use lib.Seq.{take-all}
 use lib.Dec.{eqb, leb, ltb}
 use lib.Bits.{bitOr, or-zero-l, or-add-and, and-le-r}
-use borrow.Author.Tests.{ltb-true, ltb-false, eqb-true, lt-ltb, le-leb, lt-leb, eq-eqb, ne-eqb}
+use borrow.Author.Tests.{ltb-true, ltb-false, leb-true, eqb-true, lt-ltb, le-leb, lt-leb, eq-eqb, ne-eqb}
 use Rattle.chars.specs.Put.{part}
 use Rattle.chars.specs.Gather.{upFrom}
 use Rattle.chars.proofs.PutLaws.{part-none, part-more}
@@ -50,28 +50,43 @@ module _ {a x : Bool} where
   pub and-off : (b : Bool) → a ≡ false → x ≡ false → x ≡ (a && b)
   and-off b p q = rw p q
 
--- ---- a flag that is true as long as every number passed
+-- ---- every number of a run passes
 
 every-end : (f : ℕ → Bool) (ns : List ℕ) (n : ℕ) → every f (ns ++ (n ∷ [])) ≡ (every f ns && f n)
 unfolding every
 every-end f ns n = every-append f ns (n ∷ []) ∙ ap (λ (b : Bool). every f ns && b) (and-true (f n))
 
-pub every-start : (f : ℕ → Bool) → true ≡ every f (upFrom 0 0)
+every-start : (f : ℕ → Bool) → true ≡ every f (upFrom 0 0)
 unfolding every
 every-start f = rw up-none
 
 every-next : (f : ℕ → Bool) (i : ℕ) → every f (upFrom 0 (i + 1)) ≡ (every f (upFrom 0 i) && f i)
 every-next f i = let e : 0 + i ≡ i = omega arith in rw up-more (every-end f (upFrom 0 i) (0 + i) ∙ rw e)
 
-module _ (f : ℕ → Bool) (i : ℕ) {b : Bool} where
-  pub every-passed : b ≡ every f (upFrom 0 i) → f i ≡ true → b ≡ every f (upFrom 0 (i + 1))
-  every-passed e p = rw (every-next, p, and-true) e
+-- numbers joined by or are 0 where both are
+or-none : (a b : ℕ) → eqb (bitOr a b) 0 ≡ (eqb a 0 && eqb b 0)
+or-none zero b = rw or-zero-l
+or-none (suc a) b =
+    let e : bitOr (suc a) b ≡ 0 → ⊥ = λ q. omega (arith, or-add-and (suc a) b, and-le-r (suc a) b) in
+    let k : suc a ≡ 0 → ⊥ = λ q. omega arith in
+    rw (ne-eqb (bitOr (suc a) b) 0 e, ne-eqb (suc a) 0 k)
 
-  pub every-failed : b ≡ false → f i ≡ false → b ≡ every f (upFrom 0 (i + 1))
-  every-failed e p = rw (every-next, p, and-false) e
+-- two flags at once, which are told by numbers that are 0 where all is well
+and-cross : (a b c d : Bool) → ((a && b) && (c && d)) ≡ ((a && c) && (b && d))
+and-cross true b true d = refl
+and-cross true b false d = and-false b
+and-cross false b c d = refl
 
-pub every-done : (f : ℕ → Bool) {b : Bool} {i n : ℕ} → b ≡ every f (upFrom 0 i) → i ≡ n → b ≡ every f (upFrom 0 n)
-every-done f e q = rw q at e
+pub both-start : (f g : ℕ → Bool) → eqb 0 0 ≡ (every f (upFrom 0 0) && every g (upFrom 0 0))
+both-start f g = rw (← every-start f, ← every-start g)
+
+pub both-next : (f g : ℕ → Bool) (i x y : ℕ) → eqb x 0 ≡ (every f (upFrom 0 i) && every g (upFrom 0 i)) → eqb y 0 ≡ (f i && g i)
+    → eqb (bitOr x y) 0 ≡ (every f (upFrom 0 (i + 1)) && every g (upFrom 0 (i + 1)))
+both-next f g i x y p q = rw (or-none x y, p, q, every-next f i, every-next g i, and-cross)
+
+pub both-done : (f g : ℕ → Bool) {b : Bool} {i n : ℕ} → b ≡ (every f (upFrom 0 i) && every g (upFrom 0 i)) → i ≡ n
+    → b ≡ (every f (upFrom 0 n) && every g (upFrom 0 n))
+both-done f g e q = rw q at e
 
 -- two tests that agree on each number of the run
 every-same : (f g : ℕ → Bool) (n : ℕ) → ((k : ℕ) → k < n → f k ≡ g k) → every f (upFrom 0 n) ≡ every g (upFrom 0 n)
@@ -100,14 +115,6 @@ none-next table low i =
     (λ e. let h = ltb-false (low + i) (length table) e in
     rw (part-clipped table low i h, List·getD-eq-default table 0 {n = low + i} h) (sym (and-true _)))
 
--- numbers joined by or are 0 where both are
-or-none : (a b : ℕ) → eqb (bitOr a b) 0 ≡ (eqb a 0 && eqb b 0)
-or-none zero b = rw or-zero-l
-or-none (suc a) b =
-    let e : bitOr (suc a) b ≡ 0 → ⊥ = λ q. omega (arith, or-add-and (suc a) b, and-le-r (suc a) b) in
-    let k : suc a ≡ 0 → ⊥ = λ q. omega arith in
-    rw (ne-eqb (bitOr (suc a) b) 0 e, ne-eqb (suc a) 0 k)
-
 pub none-joined : (table : List ℕ) (low i any : ℕ) → eqb any 0 ≡ noneIn table low i → eqb (bitOr any (getD table (low + i) 0)) 0 ≡ noneIn table low (i + 1)
 none-joined table low i any e = rw (or-none, none-next, e)
 
@@ -121,31 +128,31 @@ held-by (n ∷ counts) (suc f) = held-by counts f
 
 -- ---- a file, by its tables
 
-zero-leb : (n : ℕ) → leb n 0 ≡ eqb n 0
-zero-leb zero = refl
-zero-leb (suc n) = let e : suc n ≡ 0 → ⊥ = λ q. omega arith in lt-leb (suc n) 0 (omega arith) ∙ sym (ne-eqb (suc n) 0 e)
+over-none : (n limit : ℕ) → eqb (n - limit) 0 ≡ leb n limit
+over-none n limit =
+    same-bool (eqb (n - limit) 0) (leb n limit)
+    (λ e. let p : n - limit ≡ 0 = eqb-true (n - limit) 0 e in le-leb n limit (omega arith))
+    (λ e. let p : n ≤ limit = leb-true n limit e in eq-eqb (n - limit) 0 (omega arith))
 
-module _ (c : Config) {files : List ℕ} (e : c .files ≡ files) where
-  pub file-passed : (f : ℕ) → getD files f 0 ≡ 0 → fileValid c f ≡ true
-  unfolding fileValid has
-  file-passed f h = rw (e, eq-eqb _ _ h)
+values-none : (n : ℕ) → eqb (cond (eqb n 0) 255 (n - 1) - 15) 0 ≡ within 1 16 n
+unfolding within
+values-none zero = refl
+values-none (suc n) =
+    let k : suc n ≡ 0 → ⊥ = λ q. omega arith in
+    rw (ne-eqb (suc n) 0 k, over-none, le-leb 1 (suc n) (omega arith))
+    (same-bool (leb (suc n - 1) 15) (leb (suc n) 16)
+    (λ e. let p : suc n - 1 ≤ 15 = leb-true (suc n - 1) 15 e in le-leb (suc n) 16 (omega arith))
+    (λ e. let p : suc n ≤ 16 = leb-true (suc n) 16 e in le-leb (suc n - 1) 15 (omega arith)))
 
-  pub file-empty : (counts : List ℕ) (f : ℕ) → getD files f 0 ≡ 0 → fileFits c (filesBy counts) f ≡ eqb (getD counts f 0) 0
-  unfolding fileFits hasFile has
-  file-empty counts f h = rw (held-by, e, eq-eqb _ _ h, and-false) (zero-leb (getD counts f 0))
-
-  pub file-room : (counts : List ℕ) (f : ℕ) → f < 32 → (getD files f 0 ≡ 0 → ⊥) → fileFits c (filesBy counts) f ≡ leb (getD counts f 0) 32
-  unfolding fileFits hasFile has
-  file-room counts f l h = rw (held-by, e, ne-eqb _ _ h, lt-ltb _ _ l)
-
-  module _ {values : List ℕ} (v : c .values ≡ values) (f : ℕ) (h : getD files f 0 ≡ 0 → ⊥) where
-    pub file-ranged : 1 ≤ getD values f 0 → fileValid c f ≡ leb (getD values f 0) 16
-    unfolding fileValid has within
-    file-ranged l = rw (e, v, ne-eqb _ _ h, le-leb _ _ l)
-
-    pub file-valueless : getD values f 0 < 1 → fileValid c f ≡ false
-    unfolding fileValid has within
-    file-valueless l = rw (e, v, ne-eqb _ _ h, lt-leb _ _ l)
+-- what a file has past its values, where it is equipped, and past its room
+pub file-wrong : (c : Config) {files values : List ℕ} (counts : List ℕ) (f : ℕ) {b o w q room : ℕ} → c .files ≡ files → c .values ≡ values → f < 32
+    → b ≡ cond (eqb (getD values f 0) 0) 255 (getD values f 0 - 1) → o ≡ b - 15 → w ≡ cond (eqb (getD files f 0) 0) 0 o
+    → room ≡ cond (eqb (getD files f 0) 0) 0 32 → q ≡ getD counts f 0 - room
+    → eqb (bitOr w q) 0 ≡ (fileValid c f && fileFits c (filesBy counts) f)
+unfolding fileValid fileFits hasFile has
+file-wrong c {files} {values} counts f {b} {o} {w} {q} {room} e v l p r s t u =
+    rw (or-none w q, s, r, p, u, over-none (getD counts f 0) room, t, held-by counts f, e, v, lt-ltb f 32 l)
+    (by-bool (eqb (getD files f 0) 0) (λ z. rw z) (λ z. rw (z, values-none (getD values f 0))))
 
 -- an equipped file is one of 32
 pub file-low : (files : List ℕ) (f : ℕ) → hasFile files f ≡ true → f < 32
@@ -235,7 +242,7 @@ clock-judged ks =
 
 turned : (a h w b m k u n x y z v p t g s l f r : Bool)
     → ((a && (h && (w && (b && (m && k))))) && ((u && (n && (x && (y && (z && v))))) && (p && ((t && (g && s)) && (l && (f && r))))))
-    ≡ ((a && t) && ((h && g) && ((w && s) && (b && ((k && p) && (u && (n && (l && (x && (y && (z && (v && (f && (m && r))))))))))))))
+    ≡ ((a && t) && ((h && g) && ((w && s) && (b && ((k && p) && (u && (n && (l && (x && (y && (z && ((v && f) && (m && r)))))))))))))
 turned true true true true true true true true true true true true true t g s l f r = simp and-assoc
 turned false h w b m k u n x y z v p t g s l f r = refl
 turned true false w b m k u n x y z v p t g s l f r = simp and-false
@@ -256,6 +263,6 @@ pub in-turn : (c : Config) (lent : ℕ) (counts ks : List ℕ) → length ks ≡
     ≡ (clockJudged ks && (holdJudged c ks && (writeJudged ks && (bitsJudged ks && (portJudged ks
     && (leb (c .unit) 0x7FE && (leb (c .block) 512 && (eqb lent (c .block)
     && (noneIn (c .inputs) 0x20 16 && (noneIn (c .inputs) 0x60 32 && (noneIn (c .calculations) 0x80 128
-    && (every (fileValid c) (upFrom 0 32) && (every (fileFits c (filesBy counts)) (upFrom 0 32) && memoryJudged c counts ks)))))))))))))
+    && ((every (fileValid c) (upFrom 0 32) && every (fileFits c (filesBy counts)) (upFrom 0 32)) && memoryJudged c counts ks))))))))))))
 unfolding fitsIn validOf coreFits historyFits coreIn memoryIn clockJudged holdJudged writeJudged bitsJudged memoryJudged portJudged
 in-turn c lent counts ks l = rw (readable-parts ks l, fits-parts, turned)
