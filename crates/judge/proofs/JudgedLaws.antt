@@ -219,7 +219,7 @@ zeros-one {a} {b} {c} {d} {w} {x} {y} {z} p q r s =
     eq-eqb (four w x y z) 0 (omega arith))
 
 -- a number up to a limit below 256 is a byte, up to that limit
-byte-low : (k n : ℕ) → k < 256 → leb n k ≡ (ltb n 256 && leb (n % 256) k)
+pub byte-low : (k n : ℕ) → k < 256 → leb n k ≡ (ltb n 256 && leb (n % 256) k)
 byte-low k n l =
     by-bool (ltb n 256) (λ e. rw (e, mod-eq-of-lt (ltb-true n 256 e)))
     (λ e. rw e (lt-leb n k (omega (arith, ltb-false n 256 e))))

@@ -3,11 +3,12 @@ use Prim.Native.Nat.{ℕ}
 use mathlib.Core.List.{List, [], map}
 use mathlib.Core.Bool.{Bool, _&&_}
 use lib.ListN.{getD, replicate}
-use lib.Dec.{ltb}
+use lib.Dec.{eqb, leb, ltb}
 use Rattle.model.specs.Clock.{clockFits}
-use Rattle.model.specs.Config.{Config}
+use Rattle.model.specs.Config.{Config, hasFile}
+use Rattle.model.specs.History.{mostOf}
 use Rattle.model.specs.State.{Files, State}
-use Rattle.model.specs.Fits.{fits, holdFits, writeFits, memoryFits, portFits}
+use Rattle.model.specs.Fits.{fits, holdFits, writeFits, givable, memoryFits, portFits}
 use Rattle.numbers.specs.Numbers.{
   holdNumbers,
   writeNumbers,
@@ -28,6 +29,7 @@ use Rattle.numbers.specs.Numbers.{
   same,
   readable,
 }
+use Rattle.numbers.specs.declared.MemoryNumbers.{MemoryNumbers}
 use Rattle.model.specs.declared.Core.{Core}
 use Rattle.model.specs.declared.Memory.{Memory}
 use Rattle.model.specs.declared.Port.{Port}
@@ -78,6 +80,12 @@ bitsJudged ks = ltb (getD ks 15 0) 2 && ltb (getD ks 16 0) 2 && ltb (getD ks 17 
 unfoldable pub memoryJudged : Config → List ℕ → List ℕ → Bool
 memoryJudged c counts ks =
     same (memoryPlaces (memoryNumbers (replyIn (memoryAt ks)))) (memoryPlaces (memoryAt ks)) && memoryFits c (filesBy counts) (memoryIn ks)
+
+-- the same of a reply, by its numbers as they are kept; what it can carry is below 256, so that the quantity needs no bound of its own
+unfoldable pub replyJudged : List ℕ → List ℕ → List ℕ → MemoryNumbers → Bool
+replyJudged files values counts n =
+    leb (n .master) 31 && (hasFile files (n .file) && (ltb (n .dump) 2 && (ltb (n .more) 2
+    && givable (mostOf values (n .file) (eqb (n .dump) 1)) (getD counts (n .file) 0) (n .quantity) (eqb (n .more) 1))))
 
 unfoldable pub portJudged : List ℕ → Bool
 portJudged ks = ltb (getD ks 25 0) 3 && portFits (portIn ks)

@@ -3,18 +3,18 @@ ghost use mathlib.Core.Path.{_≡_};
 ghost use mathlib.Core.Bool.{_&&_};
 ghost use Prim.Native.Nat.{_<_};
 ghost use lib.Dec.{eqb};
-ghost use Rattle.numbers.specs.Numbers.{holdNumbers, writeNumbers, memoryNumbers, holdPlaces, writePlaces, memoryPlaces, holdAt, writeAt, memoryAt, holdIn, writeIn, replyIn, same};
+ghost use Rattle.numbers.specs.Numbers.{holdNumbers, writeNumbers, holdPlaces, writePlaces, holdAt, writeAt, holdIn, writeIn, same};
 ghost use Rattle.judge.specs.Judged.{bitsJudged};
 
 // A number with its bound.
-fn wide(x: u16) -> u64
+pub fn wide(x: u16) -> usize
     ensures { λ r. ⌜ (r ≡ x) × (r < 65536) ⌝ }
 {
-    x as u64
+    x as usize
 }
 
 // As one number: four that lie side by side are then read and tested at once.
-fn zeros(a: u16, b: u16, c: u16, d: u16) -> bool
+pub fn zeros(a: u16, b: u16, c: u16, d: u16) -> bool
     ensures { λ r. ⌜ r ≡ (eqb a 0 && eqb b 0 && eqb c 0 && eqb d 0) ⌝ }
 {
     wide(a) + wide(b) * 0x10000 + wide(c) * 0x100000000 + wide(d) * 0x1000000000000 == 0
@@ -45,21 +45,6 @@ pub fn write_stands<'a>(kept: &'a [u16; 26]) -> bool
     match tag {
         0 => zeros(kept[11], kept[12], kept[13], kept[14]),
         1 => (kept[11] < 256) & (kept[13] < 256),
-        _ => false,
-    }
-}
-
-pub fn reply_stands<'a>(kept: &'a [u16; 26]) -> bool
-    ensures { λ r. ⌜ r ≡ same (memoryPlaces (memoryNumbers (replyIn (memoryAt (now (kept .entry)))))) (memoryPlaces (memoryAt (now (kept .entry)))) ⌝ }
-{
-    let tag = kept[18];
-    match tag {
-        0 => zeros(kept[19], kept[20], kept[21], kept[22]) && kept[23] == 0,
-        1 => (kept[19] < 256)
-            & (kept[20] < 256)
-            & (kept[21] < 2)
-            & (kept[22] < 256)
-            & (kept[23] < 2),
         _ => false,
     }
 }
