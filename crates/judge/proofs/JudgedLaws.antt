@@ -39,6 +39,8 @@ use Rattle.judge.specs.Judged.{
   bitsJudged,
   memoryJudged,
   portJudged,
+  coreJudged,
+  configJudged,
 }
 
 -- ---- tests in a row: the answer x where the first was passed, and where it was not
@@ -242,7 +244,7 @@ clock-judged ks =
 
 turned : (a h w b m k u n x y z v p t g s l f r : Bool)
     → ((a && (h && (w && (b && (m && k))))) && ((u && (n && (x && (y && (z && v))))) && (p && ((t && (g && s)) && (l && (f && r))))))
-    ≡ ((a && t) && ((h && g) && ((w && s) && (b && ((k && p) && (u && (n && (l && (x && (y && (z && ((v && f) && (m && r)))))))))))))
+    ≡ (((a && t) && ((h && g) && ((w && s) && (b && (k && p))))) && ((u && (n && (l && (x && (y && z))))) && ((v && f) && (m && r))))
 turned true true true true true true true true true true true true true t g s l f r = simp and-assoc
 turned false h w b m k u n x y z v p t g s l f r = refl
 turned true false w b m k u n x y z v p t g s l f r = simp and-false
@@ -260,9 +262,7 @@ turned true true true true true true true true true true true true false t g s l
 
 pub in-turn : (c : Config) (lent : ℕ) (counts ks : List ℕ) → length ks ≡ 26
     → fitsIn c lent counts ks
-    ≡ (clockJudged ks && (holdJudged c ks && (writeJudged ks && (bitsJudged ks && (portJudged ks
-    && (leb (c .unit) 0x7FE && (leb (c .block) 512 && (eqb lent (c .block)
-    && (noneIn (c .inputs) 0x20 16 && (noneIn (c .inputs) 0x60 32 && (noneIn (c .calculations) 0x80 128
-    && ((every (fileValid c) (upFrom 0 32) && every (fileFits c (filesBy counts)) (upFrom 0 32)) && memoryJudged c counts ks))))))))))))
-unfolding fitsIn validOf coreFits historyFits coreIn memoryIn clockJudged holdJudged writeJudged bitsJudged memoryJudged portJudged
+    ≡ (coreJudged c ks && (configJudged c lent
+    && ((every (fileValid c) (upFrom 0 32) && every (fileFits c (filesBy counts)) (upFrom 0 32)) && memoryJudged c counts ks)))
+unfolding fitsIn validOf coreFits historyFits coreIn memoryIn clockJudged holdJudged writeJudged bitsJudged memoryJudged portJudged coreJudged configJudged
 in-turn c lent counts ks l = rw (readable-parts ks l, fits-parts, turned)

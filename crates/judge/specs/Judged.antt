@@ -5,7 +5,7 @@ use mathlib.Core.Bool.{Bool, _&&_}
 use lib.ListN.{getD, replicate}
 use lib.Dec.{eqb, leb, ltb}
 use Rattle.model.specs.Clock.{clockFits}
-use Rattle.model.specs.Config.{Config, hasFile}
+use Rattle.model.specs.Config.{Config, hasFile, noneIn}
 use Rattle.model.specs.History.{mostOf}
 use Rattle.model.specs.State.{Files, State}
 use Rattle.model.specs.Fits.{fits, holdFits, writeFits, givable, memoryFits, portFits}
@@ -89,3 +89,13 @@ replyJudged files values counts n =
 
 unfoldable pub portJudged : List ℕ → Bool
 portJudged ks = ltb (getD ks 25 0) 3 && portFits (portIn ks)
+
+-- all but the memory, which lies with the files
+unfoldable pub coreJudged : Config → List ℕ → Bool
+coreJudged c ks = clockJudged ks && (holdJudged c ks && (writeJudged ks && (bitsJudged ks && portJudged ks)))
+
+-- what a valid configuration asks of all but the files, and the block lent as long as it says
+unfoldable pub configJudged : Config → ℕ → Bool
+configJudged c lent =
+    leb (c .unit) 0x7FE && (leb (c .block) 512 && (eqb lent (c .block)
+    && (noneIn (c .inputs) 0x20 16 && (noneIn (c .inputs) 0x60 32 && noneIn (c .calculations) 0x80 128))))
