@@ -5,14 +5,11 @@ use commands::internal;
 use commands::refused;
 use commands::returned;
 use commands::scanned;
-use model::Action;
 use model::Frame;
 use model::Hold;
 use model::Outcome;
 use numbers::hold_kept;
 use numbers::keep_hold;
-use numbers::keep_memory;
-use numbers::memory_in;
 use numbers::port_in;
 use replies::finish;
 use replies::settle;
@@ -46,20 +43,6 @@ fn controlled(kept: &mut [u16; 26], ran: control::Ran) -> Step
         outcome: outcome,
         action: action,
         count: ran.count,
-    }
-}
-
-fn told(kept: &mut [u16; 26], done: history::Told) -> Step
-    ensures { λ r. ⌜ (r ≡ record { outcome = done .outcome; action = Action.Rest; count = done .count })
-        × (readable (now (kept .entry)) ≡ true → Written (coreIn (now (kept .entry))) (done .memory) (portIn (now (kept .entry))) (now (kept .exit))) ⌝ }
-{
-    let outcome = done.outcome;
-    let memory = done.memory;
-    keep_memory(kept, memory);
-    Step {
-        outcome: outcome,
-        action: Action::Rest,
-        count: done.count,
     }
 }
 
@@ -99,11 +82,7 @@ fn act<'a>(
     match function {
         0x00 => scanned(inputs::scan(inputs, words, frame, body, buffer)),
         0x03 => scanned(calculations::scan(calculations, results, frame, body, buffer)),
-        0x04 => {
-            let memory = memory_in(kept);
-            let done = history::serve(files, values, area, counts, memory, frame, body, buffer);
-            told(kept, done)
-        }
+        0x04 => scanned(history::serve(files, values, area, counts, kept, frame, body, buffer)),
         0x0A => scanned(tables::scan(inputs, fixed, words, frame, body, buffer)),
         0x10 => {
             let ran = control::control(outputs, hold, frame, body, buffer);

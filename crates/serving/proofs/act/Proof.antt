@@ -57,20 +57,17 @@ scan-requires-2 c κs = search needs
 scanned-requires-2 : tie.Need-scanned-requires-2
 scanned-requires-2 c κs = search needs
 
-memory-in-requires : tie.Need-memory-in-requires
-memory-in-requires c κs = search needs
-
 serve-requires : tie.Need-serve-requires
 serve-requires c κs = search needs
 
-told-requires : tie.Need-told-requires
-told-requires c κs = search needs
+scanned-requires-3 : tie.Need-scanned-requires-3
+scanned-requires-3 c κs = search needs
 
 scan-requires-3 : tie.Need-scan-requires-3
 scan-requires-3 c κs = search needs
 
-scanned-requires-3 : tie.Need-scanned-requires-3
-scanned-requires-3 c κs = search needs
+scanned-requires-4 : tie.Need-scanned-requires-4
+scanned-requires-4 c κs = search needs
 
 control-requires : tie.Need-control-requires
 control-requires c κs = search needs
@@ -127,16 +124,15 @@ same-length-3 c = search needs
 returns-4 : tie.Need-returns-4
 unfolding coreIn
 returns-4 c =
-    let s = c .before .before .before .before .before .before .before .before .before .before .before .before .before .before .before .before .before .before in
+    let s = c .before .before .before .before .before .before .before .before .before .before .before .before .before .before .before .before in
     let ks = s .args .kept .now in
     λ unit long y stands.
     let q = asked (s .args .frame) (s .args .body .now) in
-    let b = sym (c .before .before .before .before .before .before .before .before .before .before .before .before .breaks-off .ensures ∙ ap (λ (h : Hold). breaks h q) (c .before .before .before .before .before .before .before .before .before .before .before .before .before .hold-kept .ensures)) ∙ c .before .before .before .before .before .before .before .before .before .before .before .if1 .left in
+    let b = sym (c .before .before .before .before .before .before .before .before .before .before .breaks-off .ensures ∙ ap (λ (h : Hold). breaks h q) (c .before .before .before .before .before .before .before .before .before .before .before .hold-kept .ensures)) ∙ c .before .before .before .before .before .before .before .before .before .if1 .left in
     let cfg = configOf unit long (s .args .inputs .now) (s .args .outputs .now) (s .args .calculations .now) (s .args .files .now) (s .args .values .now) in
     let fs = filesIn (s .args .values .now) (s .args .area .now) (s .args .counts .now) in
     let i = innerOf (coreIn ks) (areasOf (s .args .words .now) (s .args .results .now) (s .args .fixed .now) (s .args .block .now)) (memoryIn ks) fs in
-    let done = rw (c .before .before .before .before .before .before .before .before .memory-in .ensures) at (c .before .before .before .before .serve .ensures) in
-    acted-told cfg _ _ _ _ _ q _ y done (step-told cfg i q b (c .before .before .before .before .before .before .before .before .before .before .match .keys3)) (c .told .ensures .0) (c .told .ensures .1 stands) refl
+    acted-told cfg _ _ _ ks q _ y stands (c .before .before .before .serve .ensures) (step-told cfg i q b (c .before .before .before .before .before .before .before .before .match .keys3)) (c .scanned3 .ensures) refl
 
 same-length-4 : tie.Need-same-length-4
 same-length-4 c = search needs
@@ -153,7 +149,7 @@ returns-5 c =
     let fs = filesIn (s .args .values .now) (s .args .area .now) (s .args .counts .now) in
     let i = innerOf (coreIn ks) (areasOf (s .args .words .now) (s .args .results .now) (s .args .fixed .now) (s .args .block .now)) (memoryIn ks) fs in
     let z = step-tables cfg i q b (c .before .before .before .before .before .before .before .match .keys4) in
-    acted-still (alone-stays i _ z) (acts-scan i _ (tables-tame _ _ _ q) z (fills-as (sym (in-room _ _ (s .pre .0))) (c .before .before .before .scan3 .ensures)) (c .scanned3 .ensures) (readable-written ks stands) refl)
+    acted-still (alone-stays i _ z) (acts-scan i _ (tables-tame _ _ _ q) z (fills-as (sym (in-room _ _ (s .pre .0))) (c .before .before .before .scan3 .ensures)) (c .scanned4 .ensures) (readable-written ks stands) refl)
 
 same-length-5 : tie.Need-same-length-5
 same-length-5 c = search needs
@@ -239,11 +235,10 @@ act-spec =
     scanned-requires
     scan-requires-2
     scanned-requires-2
-    memory-in-requires
     serve-requires
-    told-requires
-    scan-requires-3
     scanned-requires-3
+    scan-requires-3
+    scanned-requires-4
     control-requires
     controlled-requires
     internal-requires
