@@ -161,22 +161,6 @@ pub fn write(pending: Pending, frame: Frame, body: &[u8]) -> Written
     }
 }
 
-// A frame of its master drops a write.
-pub fn dropped(pending: Pending, master: Master) -> Pending
-    ensures { λ r. ⌜ r ≡ definition.dropped pending master ⌝ }
-{
-    match pending {
-        Pending::NoWrite => pending,
-        Pending::Waits(w) => {
-            let owner = w.master;
-            if owner.0 == master.0 {
-                return Pending::NoWrite;
-            }
-            pending
-        }
-    }
-}
-
 // Time ages a write, and in the end drops it.
 pub fn waits_after(pending: Pending, ms: u32) -> Pending
     ensures { λ r. ⌜ r ≡ definition.waitsAfter pending ms ⌝ }

@@ -1,11 +1,12 @@
 -- What each function leaves where it refuses. Assumes nothing.
-use Prim.Native.Nat.{ℕ, _+_}
-use mathlib.Core.Path.{_≡_, refl, sym, _∙_}
+use Prim.Native.Nat.{ℕ, _+_, _≤_}
+use native.Mathlib.Omega.{arith}
+use mathlib.Core.Path.{_≡_, refl, sym, ap, _∙_}
 use mathlib.Core.List.{List}
 use mathlib.Core.Bool.{Bool, true, false, not, _&&_, _||_, true≢false}
 use lib.ListN.{length, getD}
 use lib.Dec.{eqb, leb, ltb}
-use borrow.Author.Tests.{not-true}
+use borrow.Author.Tests.{not-true, leb-true, ne-eqb}
 use Rattle.chars.specs.Word.{wordAt}
 use Rattle.chars.specs.Gather.{gather, upFrom}
 use Rattle.model.specs.Limits.{mostData, mostAsked}
@@ -223,6 +224,17 @@ module _ (k : Core) (a : Areas) where
       (λ e. by-cond P (eqb (q .command) 0x20) (λ e. by-cond P (counts 0 q) (λ e. operate-when-kept h (masterOf (q .address))) (λ e. declines refl refl))
       (λ e. by-cond P (eqb (q .command) 0x21) (λ e. by-cond P (counts 0 q) (λ e. reset-when-kept h) (λ e. declines refl refl))
       (λ e. declines refl refl))))
+
+  -- and so 10h leaves the select where it is refused, but with 11 or 12
+  pub control-leaves : (table : List ℕ) (h : Hold) (q : Request) → declined (controlOf table h q .outcome) ≡ true
+      → (eqb (numberOf (controlOf table h q .outcome)) 11 || eqb (numberOf (controlOf table h q .outcome)) 12) ≡ false → controlOf table h q .hold ≡ h
+  unfolding carriedOut declined within controlled refusedHold
+  control-leaves table h q d e =
+      let n = numberOf (controlOf table h q .outcome) in
+      let six : 6 ≤ n = leb-true 6 n (and-left (leb 6 n) (leb n 15) d) in
+      let said : carriedOut (controlOf table h q .outcome) ≡ false =
+      rw (ne-eqb n 0 (omega arith), ne-eqb n 4 (omega arith), ne-eqb n 5 (omega arith)) refl in
+      ap (λ (p : Step). p .core .hold) (control-kept table h q .spared said .same) ∙ rw e refl
 
   write-when-kept : (p : Pending) (m : Master) (bias o : ℕ) → Kept (withWrite k p) a (written k a) (writeWhen p m bias o)
   unfolding writeWhen waitsFor written carriedOut declined within refusedHold

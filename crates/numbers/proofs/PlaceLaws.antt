@@ -11,18 +11,19 @@ use Rattle.model.specs.declared.Hold.{Hold}
 use Rattle.model.specs.declared.Pending.{Pending}
 use Rattle.model.specs.declared.Core.{Core}
 use Rattle.model.specs.declared.Memory.{Memory}
+use Rattle.model.specs.declared.Mark.{Mark}
 use Rattle.model.specs.declared.Port.{Port}
 use Rattle.numbers.specs.Numbers.{
   bitOf,
   holdNumbers,
   writeNumbers,
   memoryNumbers,
+  markNumber,
   numbersOf,
   putClock,
   putHold,
   putWrite,
   putMemory,
-  putPort,
   holdIn,
   writeIn,
   replyIn,
@@ -84,9 +85,16 @@ module _ {k : Core} {w : Memory} {p : Port} {ks : List ℕ} (a : Written k w p k
       let s = rw (a .plain) at (a .means) in
       rw (b .0, a .plain) (record { plain = refl; means = record { core = s .core; memory = b .1; port = s .port } })
 
-  -- the port
-  pub port-written : {q : Port} → ls ≡ putPort q ks → Written k w q ls
+  -- the silence
+  pub silence-written : {n : ℕ} → ls ≡ set ks 24 n → Written k w (record { silence = n; mark = p .mark }) ls
   unfolding numbersOf clockIn coreIn memoryIn portIn
-  port-written {q} b =
+  silence-written {n} b =
       let s = rw (a .plain) at (a .means) in
-      rw (b, a .plain) (record { plain = refl; means = record { core = s .core; memory = s .memory; port = λ i. record { silence = q .silence; mark = mark-back (q .mark) i } } })
+      rw (b, a .plain) (record { plain = refl; means = record { core = s .core; memory = s .memory; port = λ i. record { silence = n; mark = s .port i .mark } } })
+
+  -- the mark
+  pub mark-written : {m : Mark} → ls ≡ set ks 25 (markNumber m) → Written k w (record { silence = p .silence; mark = m }) ls
+  unfolding numbersOf clockIn coreIn memoryIn portIn
+  mark-written {m} b =
+      let s = rw (a .plain) at (a .means) in
+      rw (b, a .plain) (record { plain = refl; means = record { core = s .core; memory = s .memory; port = λ i. record { silence = s .port i .silence; mark = mark-back m i } } })

@@ -1,19 +1,24 @@
 -- What an outcome has sent, and a reply laid round the data that stand in the buffer. Assumes nothing.
 use mathlib.Core.Path.{_≡_, refl, sym, ap, _∙_}
-use Prim.Native.Nat.{ℕ}
+use Prim.Native.Nat.{ℕ, _+_, _%_}
 use mathlib.Core.List.{List}
 use mathlib.Core.Bool.{true, false}
-use lib.ListN.{length}
+use lib.ListN.{length, getD}
 use Rattle.chars.specs.Put.{put}
 use Rattle.chars.proofs.PutLaws.{put-none}
 use Rattle.model.specs.Outcome.{sendingOf}
 use Rattle.model.specs.Step.{Said, silent, said, sentAs, answered}
+use Rattle.model.specs.Port.{portStatus}
+use Rattle.model.specs.declared.Mark.{Mark}
+use Rattle.model.specs.declared.Mark.the-variants.{Fine, Silent, Damaged}
 use Rattle.model.specs.declared.Outcome.{Outcome}
 use Rattle.model.specs.declared.Sending.{Sending}
 use Rattle.model.specs.declared.Sending.the-variants.{Normal, Nop, Rst, Unanswered}
 use Rattle.model.specs.declared.Reply.{Reply}
 use Rattle.model.proofs.Conditions.{false-true}
 use Rattle.frames.specs.Framed.{framedIn}
+use Rattle.numbers.specs.Numbers.{markNumber, numbersOf, portIn, readable}
+use Rattle.numbers.proofs.NumbersLaws.{readable-written}
 use Rattle.replies.specs.Ends.{repliedIn, Replies}
 
 -- ---- what is sent
@@ -31,6 +36,19 @@ silent-when Normal r e = false-true (sym e)
 silent-when Nop r e = false-true (sym e)
 silent-when Rst r e = false-true (sym e)
 silent-when Unanswered r e = refl
+
+-- ---- the port's status by the number of its mark
+
+status-marked : (m : Mark) → 0x54 + markNumber m % 4 ≡ portStatus m
+unfolding markNumber portStatus
+status-marked Fine = refl
+status-marked Silent = refl
+status-marked Damaged = refl
+
+pub status-numbered : (ks : List ℕ) → readable ks ≡ true → 0x54 + getD ks 25 0 % 4 ≡ portStatus (portIn ks .mark)
+unfolding numbersOf
+status-numbered ks e =
+    ap (λ (ls : List ℕ). 0x54 + getD ls 25 0 % 4) (readable-written ks e .plain) ∙ status-marked (portIn ks .mark)
 
 -- ---- head and check laid round the data, or nothing
 

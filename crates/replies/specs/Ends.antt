@@ -8,7 +8,6 @@ use lib.Dec.{eqb}
 use Rattle.chars.specs.Put.{put}
 use Rattle.model.specs.Outcome.{sendingOf, replyFunction, damaged}
 use Rattle.model.specs.Step.{answered}
-use Rattle.model.specs.Port.{portStatus}
 use Rattle.model.specs.declared.Outcome.{Outcome}
 use Rattle.model.specs.declared.Mark.{Mark}
 use Rattle.model.specs.declared.Mark.the-variants.{Fine, Damaged}
@@ -16,10 +15,10 @@ use Rattle.model.specs.declared.Port.{Port}
 use Rattle.model.specs.declared.Reply.{Reply}
 use Rattle.frames.specs.Framed.{framedIn}
 
--- the head of the reply to a frame that found this status, of which a function made o, with n characters of data
-abbrev pub headOf : ℕ → ℕ → ℕ → Outcome → ℕ → Mark → Reply
-headOf status address function o n mark =
-    record { address = address; function = replyFunction function o; status = status; port = portStatus mark; count = n }
+-- the head of the reply to a frame that found this status and port status, of which a function made o, with n characters of data
+abbrev pub headOf : ℕ → ℕ → ℕ → Outcome → ℕ → ℕ → Reply
+headOf status address function o n port =
+    record { address = address; function = replyFunction function o; status = status; port = port; count = n }
 
 -- the characters that a reply lays round its data, if it is one
 unfoldable pub repliedIn : List ℕ → Outcome → Reply → List ℕ
@@ -33,6 +32,10 @@ pub record Replies (entry exit : List ℕ) (o : Outcome) (head : Reply) (n : ℕ
 unfoldable pub markBy : Mark → Outcome → Mark
 markBy m o = cond (answered (sendingOf o)) Fine (cond (damaged o) Damaged m)
 
--- the port after a stretch s with this outcome: an empty one changes nothing, any other ends the silence (Frames 15, 16)
+-- the port after characters with this outcome, which end the silence (Frames 15)
+abbrev pub heardBy : Port → Outcome → Port
+heardBy p o = record { silence = 0; mark = markBy (p .mark) o }
+
+-- the port after a stretch s with this outcome: an empty one changes nothing (Frames 15, 16)
 unfoldable pub portBy : Port → List ℕ → Outcome → Port
-portBy p s o = cond (eqb (length s) 0) p (record { silence = 0; mark = markBy (p .mark) o })
+portBy p s o = cond (eqb (length s) 0) p (heardBy p o)

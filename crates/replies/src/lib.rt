@@ -7,16 +7,16 @@ use model::Frame;
 use model::Mark;
 use model::Outcome;
 use model::Pending;
-use model::Port;
 use model::Reply;
 use model::Sending;
 use numbers::broadcast_in;
 use numbers::configure_in;
 use numbers::error_in;
 use numbers::keep_broadcast;
-use numbers::keep_port;
+use numbers::keep_mark;
+use numbers::keep_silence;
 use numbers::keep_write;
-use numbers::port_in;
+use numbers::mark_at;
 use numbers::write_kept;
 ghost use mathlib.Core.Path.{_≡_};
 ghost use mathlib.Core.List.{[]};
@@ -25,11 +25,11 @@ ghost use Prim.Native.Nat.{_≤_};
 ghost use lib.Dec.{eqb};
 ghost use Rattle.model.specs.Frame.{asked, masterOf};
 ghost use Rattle.model.specs.Blocks.{dropped};
-ghost use Rattle.model.specs.Outcome.{numberOf, sendingOf};
-ghost use Rattle.model.specs.Step.{answered, statusOf, settled};
+ghost use Rattle.model.specs.Outcome.{numberOf, sendingOf, damaged};
+ghost use Rattle.model.specs.Step.{answered, statusOf, withWrite, withBroadcast, settled};
 ghost use Rattle.model.specs.Port.{portStatus};
-ghost use Rattle.numbers.specs.Numbers.{putPort, coreIn, memoryIn, portIn, readable, Written};
-ghost use Rattle.replies.specs.Ends.{Replies, headOf, markBy, portBy};
+ghost use Rattle.numbers.specs.Numbers.{coreIn, memoryIn, portIn, readable, Written};
+ghost use Rattle.replies.specs.Ends.{Replies, headOf, markBy, heardBy, portBy};
 
 fn is_answered(outcome: Outcome) -> bool
     ensures { λ r. ⌜ r ≡ answered (sendingOf outcome) ⌝ }
@@ -60,14 +60,11 @@ pub fn status_in<'a>(kept: &'a [u16; 26]) -> u8
     bit(configure_in(kept), 0x80) + (bit(error_in(kept), 0x08) + bit(broadcast_in(kept), 0x04))
 }
 
-fn port_status(mark: Mark) -> u8
-    ensures { λ r. ⌜ r ≡ portStatus mark ⌝ }
+// The mark's number is at most 2 where the numbers stand.
+pub fn port_status_in<'a>(kept: &'a [u16; 26]) -> u8
+    ensures { λ r. ⌜ (readable (now (kept .entry)) ≡ true → r ≡ portStatus (portIn (now (kept .entry)) .mark)) ⌝ }
 {
-    match mark {
-        Mark::Fine => 0x54,
-        Mark::Silent => 0x55,
-        Mark::Damaged => 0x56,
-    }
+    0x54 + (mark_at(kept) % 4) as u8
 }
 
 // Head and check go round the data once, whatever the function was.
@@ -76,17 +73,17 @@ pub fn finish(
     frame: Frame,
     outcome: Outcome,
     count: u16,
-    mark: Mark,
+    port: u8,
     buffer: &mut [u8],
 ) -> usize
-    ensures { λ r. ⌜ Replies (now (buffer .entry)) (now (buffer .exit)) outcome (headOf status (frame .address) (frame .function) outcome count mark) r ⌝ }
+    ensures { λ r. ⌜ Replies (now (buffer .entry)) (now (buffer .exit)) outcome (headOf status (frame .address) (frame .function) outcome count port) r ⌝ }
 {
     if is_answered(outcome) {
         let head = Reply {
             address: frame.address,
             function: reply_function(frame.function, outcome),
             status: status,
-            port: port_status(mark),
+            port: port,
             count: count,
         };
         return frames::fill(buffer, head);
@@ -96,71 +93,83 @@ pub fn finish(
 
 // ---- the core
 
-// A WRITE that is taken waits; after any other frame of its master it is gone.
-fn write_left(write: Pending, frame: Frame, outcome: Outcome) -> Pending
-    ensures { λ r. ⌜ r ≡ cond (eqb (numberOf outcome) 5) write (dropped write (masterOf (frame .address))) ⌝ }
+// A WRITE that is taken waits; any other frame of its master drops a write.
+fn settle_write(kept: &mut [u16; 26], frame: Frame, outcome: Outcome)
+    ensures { λ _. ⌜ (readable (now (kept .entry)) ≡ true → Written
+        (withWrite (coreIn (now (kept .entry))) (cond (eqb (numberOf outcome) 5) (coreIn (now (kept .entry)) .write) (dropped (coreIn (now (kept .entry)) .write) (masterOf (frame .address)))))
+        (memoryIn (now (kept .entry))) (portIn (now (kept .entry))) (now (kept .exit))) ⌝ }
 {
     if number(outcome) == 5 {
-        return write;
+        return;
     }
-    blocks::dropped(write, frames::master_of(frame.address))
-}
-
-// A reply clears bit 2.
-fn bit_left(on: bool, outcome: Outcome) -> bool
-    ensures { λ r. ⌜ r ≡ cond (answered (sendingOf outcome)) false on ⌝ }
-{
-    if is_answered(outcome) {
-        return false;
+    let master = frames::master_of(frame.address);
+    let pending = write_kept(kept);
+    match pending {
+        Pending::NoWrite => {}
+        Pending::Waits(write) => {
+            let owner = write.master;
+            if owner.0 == master.0 {
+                keep_write(kept, Pending::NoWrite);
+            }
+        }
     }
-    on
-}
-
-pub fn settle(kept: &mut [u16; 26], frame: Frame, outcome: Outcome)
-    ensures { λ _. ⌜ (readable (now (kept .entry)) ≡ true → Written (settled (asked frame []) outcome (coreIn (now (kept .entry)))) (memoryIn (now (kept .entry))) (portIn (now (kept .entry))) (now (kept .exit))) ⌝ }
-{
-    let write = write_kept(kept);
-    keep_write(kept, write_left(write, frame, outcome));
-    let on = broadcast_in(kept);
-    keep_broadcast(kept, bit_left(on, outcome));
 }
 
 // ---- the port
 
-fn marked(mark: Mark, outcome: Outcome) -> Mark
-    ensures { λ r. ⌜ r ≡ markBy mark outcome ⌝ }
+fn is_damaged(outcome: Outcome) -> bool
+    ensures { λ r. ⌜ r ≡ damaged outcome ⌝ }
 {
-    if is_answered(outcome) {
-        return Mark::Fine;
-    }
     let n = number(outcome);
-    if n == 1 {
-        return Mark::Damaged;
-    }
-    if n == 2 {
-        return Mark::Damaged;
-    }
-    mark
+    n == 1 || n == 2
 }
 
-// An empty stretch changes nothing.
-fn port_after(port: Port, s: &[u8], outcome: Outcome) -> Port
-    ensures { λ r. ⌜ r ≡ portBy port (now (s .entry)) outcome ⌝ }
+// The mark that the outcome leaves is not written again.
+fn mark_unanswered(kept: &mut [u16; 26], outcome: Outcome)
+    ensures { λ _. ⌜ (answered (sendingOf outcome) ≡ false → readable (now (kept .entry)) ≡ true → Written (coreIn (now (kept .entry))) (memoryIn (now (kept .entry)))
+        (record { silence = portIn (now (kept .entry)) .silence; mark = markBy (portIn (now (kept .entry)) .mark) outcome }) (now (kept .exit))) ⌝ }
+{
+    if is_damaged(outcome) {
+        keep_mark(kept, Mark::Damaged);
+    }
+}
+
+// An empty stretch leaves all.
+pub fn mark_port(kept: &mut [u16; 26], s: &[u8], ended: Outcome)
+    ensures { λ _. ⌜ (readable (now (kept .entry)) ≡ true → Written (coreIn (now (kept .entry))) (memoryIn (now (kept .entry))) (portBy (portIn (now (kept .entry))) (now (s .entry)) ended) (now (kept .exit))) ⌝ }
 {
     if s.len() == 0 {
-        return port;
+        return;
     }
-    let mark = port.mark;
-    Port {
-        silence: 0,
-        mark: marked(mark, outcome),
+    keep_silence(kept, 0);
+    if is_answered(ended) {
+        keep_mark(kept, Mark::Fine);
+        return;
     }
+    mark_unanswered(kept, ended);
 }
 
-pub fn mark_port(kept: &mut [u16; 26], s: &[u8], outcome: Outcome)
-    ensures { λ _. ⌜ now (kept .exit) ≡ putPort (portBy (portIn (now (kept .entry))) (now (s .entry)) outcome) (now (kept .entry)) ⌝ }
+// ---- a frame for this unit
+
+// A reply clears bit 2 and the mark.
+fn settle_line(kept: &mut [u16; 26], outcome: Outcome)
+    ensures { λ _. ⌜ (readable (now (kept .entry)) ≡ true → Written
+        (withBroadcast (coreIn (now (kept .entry))) (cond (answered (sendingOf outcome)) false (coreIn (now (kept .entry)) .broadcast)))
+        (memoryIn (now (kept .entry))) (heardBy (portIn (now (kept .entry))) outcome) (now (kept .exit))) ⌝ }
 {
-    let port = port_after(port_in(kept), s, outcome);
-    let mark = port.mark;
-    keep_port(kept, port.silence, mark);
+    keep_silence(kept, 0);
+    if is_answered(outcome) {
+        keep_broadcast(kept, false);
+        keep_mark(kept, Mark::Fine);
+        return;
+    }
+    mark_unanswered(kept, outcome);
+}
+
+// Whether there was a reply is asked once, for bit 2 and for the port.
+pub fn settle(kept: &mut [u16; 26], frame: Frame, outcome: Outcome)
+    ensures { λ _. ⌜ (readable (now (kept .entry)) ≡ true → Written (settled (asked frame []) outcome (coreIn (now (kept .entry)))) (memoryIn (now (kept .entry))) (heardBy (portIn (now (kept .entry))) outcome) (now (kept .exit))) ⌝ }
+{
+    settle_write(kept, frame, outcome);
+    settle_line(kept, outcome);
 }

@@ -13,7 +13,7 @@ use Rattle.model.specs.Outcome.{sendingOf, replyFunction}
 use Rattle.model.specs.Config.{Config}
 use Rattle.model.specs.State.{Areas, Files, Inner}
 use Rattle.model.specs.Step.{Step as StepOf, Said, said, sentAs, answered, statusOf, settled, finished, served}
-use Rattle.model.specs.Port.{sentChars}
+use Rattle.model.specs.Port.{portStatus, sentChars}
 use Rattle.model.specs.declared.Outcome.{Outcome}
 use Rattle.model.specs.declared.Answer.the-variants.{Ended}
 use Rattle.model.specs.declared.Core.{Core}
@@ -25,7 +25,7 @@ use Rattle.numbers.specs.Numbers.{coreIn, memoryIn, portIn, Written}
 use Rattle.frames.specs.Framed.{framedIn}
 use Rattle.frames.proofs.FillLaws.{framed-is, framed-long}
 use Rattle.events.specs.Changes.{stepOf}
-use Rattle.replies.specs.Ends.{headOf, repliedIn, Replies}
+use Rattle.replies.specs.Ends.{headOf, repliedIn, Replies, heardBy}
 use Rattle.replies.proofs.ReplyLaws.{said-when, silent-when}
 use Rattle.commands.specs.declared.Step.{Step}
 use Rattle.commands.specs.declared.Made.{Made as MadeOf}
@@ -46,9 +46,9 @@ abbrev saidOf : Core → Request → Outcome → List ℕ → Said
 saidOf found q o ys = record { address = q .address; function = replyFunction (q .function) o; status = statusOf found; chars = ys }
 
 module _ (found : Core) (q : Request) (o : Outcome) (mark : Mark) (entry mid exit ys : List ℕ) (n : ℕ) (w : mid ≡ put entry 7 ys) (l : longestReply ≤ length entry) (t : Tame o ys)
-    (f : Replies mid exit o (headOf (statusOf found) (q .address) (q .function) o (length ys) mark) n) where
+    (f : Replies mid exit o (headOf (statusOf found) (q .address) (q .function) o (length ys) (portStatus mark)) n) where
   abbrev head : Reply
-  head = headOf (statusOf found) (q .address) (q .function) o (length ys) mark
+  head = headOf (statusOf found) (q .address) (q .function) o (length ys) (portStatus mark)
 
   abbrev sent : List ℕ
   sent = sentChars mark (sentAs (sendingOf o) (saidOf found q o ys))
@@ -80,18 +80,18 @@ module _ (found : Core) (q : Request) (o : Outcome) (mark : Mark) (entry mid exi
 
 pub makes-served : (c : Config) (i : Inner) (q : Request) (mark : Mark) {areas : Areas} {fs : Files} {p : Port} {ks ls entry mid exit : List ℕ} {r : Step} {x : MadeOf} {n : ℕ}
     → longestReply ≤ length entry → Acts (stepOf c i q) areas fs p ks entry mid r
-    → Replies mid exit (r .outcome) (headOf (statusOf (i .core)) (q .address) (q .function) (r .outcome) (r .count) mark) n
-    → Written (settled q (r .outcome) (coreIn ks)) (memoryIn ks) (portIn ks) ls
+    → Replies mid exit (r .outcome) (headOf (statusOf (i .core)) (q .address) (q .function) (r .outcome) (r .count) (portStatus mark)) n
+    → Written (settled q (r .outcome) (coreIn ks)) (memoryIn ks) (heardBy (portIn ks) (r .outcome)) ls
     → x ≡ record { outcome = r .outcome; action = r .action; sent = n }
-    → Makes (served c i q) mark areas fs p ls entry exit x
+    → Makes (served c i q) mark areas fs (heardBy p (x .outcome)) ls entry exit x
 unfolding finished
 makes-served c i q mark {entry = entry} {mid} {exit} {r} {n = n} l a f k e =
     let p : StepOf = stepOf c i q .step in
-    let f′ : Replies mid exit (p .outcome) (headOf (statusOf (i .core)) (q .address) (q .function) (p .outcome) (length (p .chars)) mark) n = rw (a .counted, a .ended) at f in
+    let f′ : Replies mid exit (p .outcome) (headOf (statusOf (i .core)) (q .address) (q .function) (p .outcome) (length (p .chars)) (portStatus mark)) n = rw (a .counted, a .ended) at f in
     let g = sent-as (i .core) q (p .outcome) mark entry mid exit (p .chars) n (a .written) l (a .tame) f′ in
-    rw (served-is c i q, e)
+    rw (served-is c i q, e, a .ended)
     (record {
-      answered = ap Ended (a .ended);
+      answered = refl;
       acted = a .acted;
       counted = g .0;
       inside = g .2;

@@ -1,15 +1,17 @@
 -- A frame for this unit by its function: the step that it comes to, and how what a function hands back makes that step.
 -- Assumes nothing.
-use mathlib.Core.Path.{_≡_, refl, sym}
+use mathlib.Core.Path.{_≡_, refl, sym, _∙_}
 use Prim.Native.Nat.{ℕ}
 use mathlib.Core.List.{List}
-use mathlib.Core.Bool.{true, false}
+use mathlib.Core.Bool.{true, false, not, _&&_}
 use lib.Dec.{eqb}
-use borrow.Author.Tests.{ne-eqb}
+use borrow.Author.Tests.{ne-eqb, not-true}
 use Rattle.chars.proofs.PutLaws.{put-none}
 use Rattle.model.specs.Limits.{replyHead}
 use Rattle.model.specs.Frame.{Request}
-use Rattle.model.specs.Config.{Config}
+use Rattle.model.specs.Outcome.{numberOf}
+use Rattle.model.specs.Refusal.{declined}
+use Rattle.model.specs.Config.{Config, within}
 use Rattle.model.specs.State.{Areas, Files, Inner}
 use Rattle.model.specs.Scan.{counts}
 use Rattle.model.specs.Inputs as points
@@ -35,9 +37,11 @@ use Rattle.model.specs.Step.{
 use Rattle.model.specs.declared.Outcome.{Outcome}
 use Rattle.model.specs.declared.Outcome.the-variants.{Unknown}
 use Rattle.model.specs.declared.Action.the-variants.{Rest}
+use Rattle.model.specs.declared.Hold.{Hold}
 use Rattle.model.specs.declared.Core.{Core}
 use Rattle.model.specs.declared.Port.{Port}
-use Rattle.model.proofs.Conditions.{by-bool}
+use Rattle.model.proofs.Conditions.{by-bool, and-left, and-right}
+use Rattle.model.proofs.Refusing.{control-leaves}
 use Rattle.numbers.specs.Numbers.{Written}
 use Rattle.control.specs.declared.Ran.{Ran}
 use Rattle.control.specs.Runs.{Runs}
@@ -47,7 +51,7 @@ use Rattle.events.proofs.HeedLaws.{still}
 use Rattle.commands.specs.declared.Step.{Step}
 use Rattle.commands.specs.Acts.{Tame, Acts}
 use Rattle.commands.proofs.TameLaws.{mute}
-use Rattle.serving.specs.Served.{Acted}
+use Rattle.serving.specs.Served.{leaves, Acted}
 
 -- ---- which step
 
@@ -116,6 +120,18 @@ module _ (i : Inner) {m : Stepped} {a : Areas} {p : Port} {ls entry exit : List 
   acts-control f t z w e k y =
       rw (z, e, y)
       (record { ended = w .ended; acted = w .acted; counted = w .counted; written = w .written; kept = rw (w .held) at k; areas = refl; files = refl; tame = t })
+
+-- a request of 10h that is refused leaves the select, but for 11 and 12
+pub run-leaves : (k : Core) (a : Areas) (table : List ℕ) (h : Hold) (q : Request) {entry exit : List ℕ} {r : Ran} → Runs entry exit (controlOf table h q) r
+    → leaves (r .outcome) ≡ true → r .hold ≡ h
+unfolding declined
+run-leaves k a table h q w e =
+    let n = numberOf (controlOf table h q .outcome) in
+    let l : leaves (controlOf table h q .outcome) ≡ true = rw (w .ended) at e in
+    let most = and-left (within 6 15 n && not (eqb n 11)) (not (eqb n 12)) l in
+    w .held
+    ∙ control-leaves k a table h q (and-left (within 6 15 n) (not (eqb n 11)) most)
+    (rw (not-true (eqb n 11) (and-right (within 6 15 n) (not (eqb n 11)) most), not-true (eqb n 12) (and-right (within 6 15 n && not (eqb n 11)) (not (eqb n 12)) l)) refl)
 
 -- a step that leaves the files
 pub acted-still : {m : Stepped} {a : Areas} {fs : Files} {p : Port} {ls area held entry exit : List ℕ} {r : Step} → m .change ≡ stays → Acts m a fs p ls entry exit r

@@ -2,12 +2,15 @@
 use mathlib.Core.Path.{_≡_}
 use Prim.Native.Nat.{ℕ}
 use mathlib.Core.List.{List}
-use mathlib.Core.Bool.{true}
+use mathlib.Core.Bool.{Bool, true, not, _&&_}
 use lib.ListN.{length}
-use Rattle.model.specs.Config.{Config, validOf}
+use lib.Dec.{eqb}
+use Rattle.model.specs.Outcome.{numberOf}
+use Rattle.model.specs.Config.{Config, within, validOf}
 use Rattle.model.specs.Fits.{historyFits}
 use Rattle.model.specs.State.{Areas, Files}
 use Rattle.model.specs.Step.{Made}
+use Rattle.model.specs.declared.Outcome.{Outcome}
 use Rattle.model.specs.declared.Memory.{Memory}
 use Rattle.model.specs.declared.Mark.{Mark}
 use Rattle.model.specs.declared.Port.{Port}
@@ -17,6 +20,10 @@ use Rattle.events.specs.Changes.{Stepped}
 use Rattle.commands.specs.declared.Step.{Step}
 use Rattle.commands.specs.declared.Made.{Made as MadeOf}
 use Rattle.commands.specs.Acts.{Acts, Makes}
+
+-- a refused control request leaves the select, but for 11 and 12 (Select 4, 5)
+abbrev pub leaves : Outcome → Bool
+leaves o = within 6 15 (numberOf o) && not (eqb (numberOf o) 11) && not (eqb (numberOf o) 12)
 
 -- a configuration that is valid, and a history in range in lent arrays
 pub record Ready (c : Config) (w : Memory) (area counts : List ℕ) : Type 0 where

@@ -5,13 +5,14 @@ use commands::internal;
 use commands::refused;
 use commands::returned;
 use commands::scanned;
+use frames::outcomes::number;
 use model::Frame;
 use model::Hold;
 use model::Outcome;
 use numbers::hold_kept;
 use numbers::keep_hold;
-use numbers::port_in;
 use replies::finish;
+use replies::port_status_in;
 use replies::settle;
 use replies::status_in;
 ghost use mathlib.Core.Path.{_≡_};
@@ -23,27 +24,41 @@ ghost use Rattle.model.specs.Frame.{asked};
 ghost use Rattle.model.specs.Clock.{clockFits};
 ghost use Rattle.model.specs.Step.{served, withHold};
 ghost use Rattle.numbers.specs.Numbers.{coreIn, memoryIn, portIn, readable, Written};
+ghost use Rattle.replies.specs.Ends.{heardBy};
 ghost use Rattle.history.specs.Layout.{filesIn};
 ghost use Rattle.judge.specs.Judged.{configOf};
 ghost use Rattle.events.specs.Kept.{areasOf, innerOf};
 ghost use Rattle.events.specs.Changes.{stepOf};
-ghost use Rattle.serving.specs.Served.{Ready, Acted, MakesIn};
+ghost use Rattle.serving.specs.Served.{leaves, Ready, Acted, MakesIn};
 
 // ---- what a function hands back, as a step
 
+// A refusal leaves the select, but one that finds it timed out; what is left is not written again.
+fn left(outcome: Outcome) -> bool
+    ensures { λ r. ⌜ r ≡ leaves outcome ⌝ }
+{
+    let n = number(outcome);
+    (6 <= n) & (n <= 15) & (n != 11) & (n != 12)
+}
+
 fn controlled(kept: &mut [u16; 26], ran: control::Ran) -> Step
     ensures { λ r. ⌜ (r ≡ record { outcome = ran .outcome; action = ran .action; count = ran .count })
-        × (readable (now (kept .entry)) ≡ true → Written (withHold (coreIn (now (kept .entry))) (ran .hold)) (memoryIn (now (kept .entry))) (portIn (now (kept .entry))) (now (kept .exit))) ⌝ }
+        × (readable (now (kept .entry)) ≡ true → (leaves (ran .outcome) ≡ true → ran .hold ≡ coreIn (now (kept .entry)) .hold)
+        → Written (withHold (coreIn (now (kept .entry))) (ran .hold)) (memoryIn (now (kept .entry))) (portIn (now (kept .entry))) (now (kept .exit))) ⌝ }
 {
     let outcome = ran.outcome;
     let action = ran.action;
     let hold = ran.hold;
-    keep_hold(kept, hold);
-    Step {
+    let step = Step {
         outcome: outcome,
         action: action,
         count: ran.count,
+    };
+    if left(outcome) {
+        return step;
     }
+    keep_hold(kept, hold);
+    step
 }
 
 // ---- the frame
@@ -73,8 +88,7 @@ fn act<'a>(
         (areasOf (now (words .exit)) (now (results .entry)) (now (fixed .exit)) (now (block .exit))) (filesIn (now (values .entry)) (now (area .exit)) (now (counts .exit))) (portIn (now (kept .entry))) (now (kept .exit))
         (now (area .entry)) (now (counts .entry)) (now (area .exit)) (now (counts .exit)) (now (buffer .entry)) (now (buffer .exit)) r) ⌝ }
 {
-    let hold = hold_kept(kept);
-    if control::breaks_off(hold, frame, body) {
+    if control::breaks_off(hold_kept(kept), frame, body) {
         keep_hold(kept, Hold::Free);
         return refused(Outcome::BrokenOff);
     }
@@ -85,6 +99,7 @@ fn act<'a>(
         0x04 => scanned(history::serve(files, values, area, counts, kept, frame, body, buffer)),
         0x0A => scanned(tables::scan(inputs, fixed, words, frame, body, buffer)),
         0x10 => {
+            let hold = hold_kept(kept);
             let ran = control::control(outputs, hold, frame, body, buffer);
             controlled(kept, ran)
         }
@@ -116,11 +131,10 @@ pub fn served<'a>(
     ensures { λ r. ⌜ ((unit long : ℕ) → Ready (configOf unit long (now (inputs .entry)) (now (outputs .entry)) (now (calculations .entry)) (now (files .entry)) (now (values .entry))) (memoryIn (now (kept .entry))) (now (area .entry)) (now (counts .entry)) → readable (now (kept .entry)) ≡ true → MakesIn
         (served (configOf unit long (now (inputs .entry)) (now (outputs .entry)) (now (calculations .entry)) (now (files .entry)) (now (values .entry))) (innerOf (coreIn (now (kept .entry))) (areasOf (now (words .entry)) (now (results .entry)) (now (fixed .entry)) (now (block .entry))) (memoryIn (now (kept .entry))) (filesIn (now (values .entry)) (now (area .entry)) (now (counts .entry)))) (asked frame (now (body .entry))))
         (stepOf (configOf unit long (now (inputs .entry)) (now (outputs .entry)) (now (calculations .entry)) (now (files .entry)) (now (values .entry))) (innerOf (coreIn (now (kept .entry))) (areasOf (now (words .entry)) (now (results .entry)) (now (fixed .entry)) (now (block .entry))) (memoryIn (now (kept .entry))) (filesIn (now (values .entry)) (now (area .entry)) (now (counts .entry)))) (asked frame (now (body .entry))) .change)
-        (portIn (now (kept .entry)) .mark) (areasOf (now (words .exit)) (now (results .entry)) (now (fixed .exit)) (now (block .exit))) (filesIn (now (values .entry)) (now (area .exit)) (now (counts .exit))) (portIn (now (kept .entry))) (now (kept .exit)) (now (area .entry)) (now (counts .entry)) (now (area .exit)) (now (counts .exit)) (now (buffer .entry)) (now (buffer .exit)) r) ⌝ }
+        (portIn (now (kept .entry)) .mark) (areasOf (now (words .exit)) (now (results .entry)) (now (fixed .exit)) (now (block .exit))) (filesIn (now (values .entry)) (now (area .exit)) (now (counts .exit))) (heardBy (portIn (now (kept .entry))) (r .outcome)) (now (kept .exit)) (now (area .entry)) (now (counts .entry)) (now (area .exit)) (now (counts .exit)) (now (buffer .entry)) (now (buffer .exit)) r) ⌝ }
 {
     let status = status_in(kept);
-    let port = port_in(kept);
-    let mark = port.mark;
+    let port = port_status_in(kept);
     let step = act(
         inputs,
         outputs,
@@ -140,7 +154,7 @@ pub fn served<'a>(
     );
     let outcome = step.outcome;
     let action = step.action;
-    let sent = finish(status, frame, outcome, step.count, mark, buffer);
+    let sent = finish(status, frame, outcome, step.count, port, buffer);
     settle(kept, frame, outcome);
     Made {
         outcome: outcome,

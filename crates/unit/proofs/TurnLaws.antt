@@ -13,7 +13,7 @@ use Rattle.model.specs.Frame.{asked, unitOf, broadcastUnit, heardOf, requestIn}
 use Rattle.model.specs.Config.{Config}
 use Rattle.model.specs.State.{Areas, Files, Inner}
 use Rattle.model.specs.Fits.{fits}
-use Rattle.model.specs.Step.{stretch, served, broadcastOf, broadcastMade, framed, judged, makeOf}
+use Rattle.model.specs.Step.{Made, stretch, served, broadcastOf, broadcastMade, framed, judged, makeOf}
 use Rattle.model.specs.Run.{short, Result, turnedAway, shows, moves}
 use Rattle.model.specs.declared.Outcome.the-variants.{NotWhole, CheckWrong, OtherUnit, NotConfigured, BufferShort}
 use Rattle.model.specs.declared.Action.the-variants.{Rest}
@@ -22,15 +22,16 @@ use Rattle.model.specs.declared.Heard.the-variants.{Broken, Wrong, Whole}
 use Rattle.model.specs.declared.Mark.{Mark}
 use Rattle.model.specs.declared.Port.{Port}
 use Rattle.model.proofs.Conditions.{false-true, by-bool}
-use Rattle.numbers.specs.Numbers.{putPort, portIn, readable, Written}
+use Rattle.model.proofs.FrameLaws.{heard-whole}
+use Rattle.numbers.specs.Numbers.{coreIn, memoryIn, portIn, readable, Written}
 use Rattle.numbers.proofs.NumbersLaws.{written-readable}
-use Rattle.numbers.proofs.PlaceLaws.{port-written}
 use Rattle.history.specs.Layout.{filesIn}
+use Rattle.history.specs.Change.{Change}
 use Rattle.model.proofs.TurnedAway.{short-away, unfit-away, works}
 use Rattle.events.specs.Kept.{Kept, areasOf, innerOf, stateOf, Owned, keptIn}
 use Rattle.events.specs.Changes.{stepOf, changeFramed, changeHeard, changeMade, changeOf}
 use Rattle.events.proofs.HeedLaws.{still}
-use Rattle.replies.specs.Ends.{portBy}
+use Rattle.replies.specs.Ends.{heardBy, portBy}
 use Rattle.commands.specs.declared.Made.{Made as MadeOf}
 use Rattle.commands.specs.Acts.{Makes}
 use Rattle.commands.proofs.BroadcastLaws.{makes-quiet}
@@ -40,7 +41,7 @@ use Rattle.unit.proofs.MarkLaws.{port-judged}
 
 -- ---- a stretch that a working unit hears
 
-module _ (c : Config) (i : Inner) (s : List ℕ) (mark : Mark) {p : Port} {area held entry : List ℕ} {x : MadeOf} where
+module _ (c : Config) (i : Inner) (s : List ℕ) (mark : Mark) (p : Port) {area held entry : List ℕ} {x : MadeOf} where
   module _ {ks : List ℕ} (k : Written (i .core) (i .history .memory) p ks) where
     pub judged-broken : heardOf s ≡ Broken → x ≡ record { outcome = NotWhole; action = Rest; sent = 0 }
         → MakesIn (judged c i s (heardOf s)) (changeHeard c i s (heardOf s)) mark (i .areas) (i .history .files) p ks area held area held entry entry x
@@ -55,10 +56,12 @@ module _ (c : Config) (i : Inner) (s : List ℕ) (mark : Mark) {p : Port} {area 
   module _ (f : Frame) {body : List ℕ} {to : ℕ} (h : heardOf s ≡ Whole f) (b : body ≡ part s 6 (f .count)) (u : to ≡ unitOf (f .address)) where
     -- for this unit
     pub judged-own : {a : Areas} {fs : Files} {ls area′ held′ exit : List ℕ} → to ≡ c .unit
-        → MakesIn (served c i (asked f body)) (stepOf c i (asked f body) .change) mark a fs p ls area held area′ held′ entry exit x
-        → MakesIn (judged c i s (heardOf s)) (changeHeard c i s (heardOf s)) mark a fs p ls area held area′ held′ entry exit x
-    unfolding judged framed changeHeard changeFramed requestIn
-    judged-own t w = rw (h, eq-eqb (unitOf (f .address)) (c .unit) (sym u ∙ t), ← b) w
+        → MakesIn (served c i (asked f body)) (stepOf c i (asked f body) .change) mark a fs (heardBy p (x .outcome)) ls area held area′ held′ entry exit x
+        → MakesIn (judged c i s (heardOf s)) (changeHeard c i s (heardOf s)) mark a fs (portBy p s (x .outcome)) ls area held area′ held′ entry exit x
+    unfolding judged framed changeHeard changeFramed requestIn portBy
+    judged-own t w =
+        let long : length s ≡ 0 → ⊥ = λ e. absurd (omega (arith, heard-whole s f h .short)) in
+        rw (h, eq-eqb (unitOf (f .address)) (c .unit) (sym u ∙ t), ← b, ne-eqb (length s) 0 long) w
 
     -- for all
     pub judged-all : {a : Areas} {fs : Files} {ls : List ℕ} → (to ≡ c .unit → ⊥) → to ≡ 0x7FF
@@ -135,17 +138,39 @@ module _ (c : Config) (s : List ℕ) (x : Owned) (entry : List ℕ) {r : MadeOf}
         unread = λ _. record { shown = rw (le-ltb (length entry) longestReply l) e; written = refl; owned = refl };
       }
 
-pub serves-made : (c : Config) (s : List ℕ) (x : Owned) (entry : List ℕ) (y : Owned) {ks exit : List ℕ} (m : MadeOf) → readable (x .numbers) ≡ true → longestReply ≤ length entry → fits c (stateOf c (keptIn x)) ≡ true
+-- what was made of a stretch, and the port marked by it
+pub makes-marked : (s : List ℕ) {m : Made} {ch : Change} {mark : Mark} {a : Areas} {fs : Files} {p : Port} {ks ls area held area′ held′ entry exit : List ℕ} {r x : MadeOf}
+    → MakesIn m ch mark a fs p ks area held area′ held′ entry exit r
+    → (x ≡ r) × (readable ks ≡ true → Written (coreIn ks) (memoryIn ks) (portBy (portIn ks) s (r .outcome)) ls)
+    → MakesIn m ch mark a fs (portBy p s (x .outcome)) ls area held area′ held′ entry exit x
+makes-marked s v n =
+    let z = v .makes in
+    rw (n .0)
+    (record {
+      makes = record {
+        answered = z .answered;
+        acted = z .acted;
+        counted = z .counted;
+        inside = z .inside;
+        written = z .written;
+        kept = rw (z .kept .means .core, z .kept .means .memory, z .kept .means .port) at (n .1 (written-readable (z .kept)));
+        areas = z .areas;
+        files = z .files;
+      };
+      changed = v .changed;
+    })
+
+pub serves-made : (c : Config) (s : List ℕ) (x : Owned) (entry : List ℕ) (y : Owned) {exit : List ℕ} (m : MadeOf) → readable (x .numbers) ≡ true → longestReply ≤ length entry → fits c (stateOf c (keptIn x)) ≡ true
     → MakesIn (judged c (stateOf c (keptIn x) .inner) s (heardOf s)) (changeHeard c (stateOf c (keptIn x) .inner) s (heardOf s)) (portIn (x .numbers) .mark)
-    (areasOf (y .words) (y .results) (y .fixed) (y .block)) (filesIn (c .values) (y .area) (y .counts)) (portIn (x .numbers)) ks
+    (areasOf (y .words) (y .results) (y .fixed) (y .block)) (filesIn (c .values) (y .area) (y .counts)) (portBy (portIn (x .numbers)) s (m .outcome)) (y .numbers)
     (x .area) (x .counts) (y .area) (y .counts) entry exit m
-    → y .numbers ≡ putPort (portBy (portIn (x .numbers)) s (m .outcome)) ks → Serves c s x y entry exit m
+    → Serves c s x y entry exit m
 unfolding short makeOf shows moves changeOf changeMade
-serves-made c s x entry y {ks} {exit} m g l b v n =
+serves-made c s x entry y {exit} m g l b v =
     let t : short (stretch (length entry) s) ≡ false = le-ltb (length entry) 520 l in
     let w = works c (stateOf c (keptIn x)) (stretch (length entry) s) t b in
     let z = v .makes in
-    let k = port-written (z .kept) n in
+    let k = z .kept in
     let port = sym (port-judged c (stateOf c (keptIn x) .inner) s (heardOf s) (portIn (x .numbers)) (m .outcome) (length entry) (z .answered)) in
     record {
       read = λ _. record {

@@ -19,7 +19,8 @@ ghost use Rattle.model.specs.Fits.{historyFits};
 ghost use Rattle.model.specs.Step.{judged};
 ghost use Rattle.history.specs.Layout.{filesIn};
 ghost use Rattle.judge.specs.Judged.{configOf};
-ghost use Rattle.numbers.specs.Numbers.{coreIn, memoryIn, portIn, readable};
+ghost use Rattle.numbers.specs.Numbers.{coreIn, memoryIn, portIn, readable, Written};
+ghost use Rattle.replies.specs.Ends.{portBy};
 ghost use Rattle.events.specs.Kept.{areasOf, innerOf, ownedOf};
 ghost use Rattle.events.specs.Changes.{changeHeard};
 ghost use Rattle.serving.specs.Served.{MakesIn};
@@ -30,6 +31,16 @@ const ALL: u16 = 0x7FF;
 
 // Nothing is done: an array that is lent as a slice tells its length.
 fn told_long(area: &[u8], counts: &[u8]) {}
+
+// What is not for this unit leaves its mark on the port.
+fn marked(kept: &mut [u16; 26], s: &[u8], made: Made) -> Made
+    ensures { λ r. ⌜ (r ≡ made)
+        × (readable (now (kept .entry)) ≡ true → Written (coreIn (now (kept .entry))) (memoryIn (now (kept .entry))) (portBy (portIn (now (kept .entry))) (now (s .entry)) (made .outcome)) (now (kept .exit))) ⌝ }
+{
+    let outcome = made.outcome;
+    mark_port(kept, s, outcome);
+    made
+}
 
 fn judged<'a>(
     unit: u16,
@@ -55,13 +66,13 @@ fn judged<'a>(
         (judged (configOf unit long (now (inputs .entry)) (now (outputs .entry)) (now (calculations .entry)) (now (files .entry)) (now (values .entry))) (innerOf (coreIn (now (kept .entry))) (areasOf (now (words .entry)) (now (results .entry)) (now (fixed .entry)) (now (block .entry))) (memoryIn (now (kept .entry))) (filesIn (now (values .entry)) (now (area .entry)) (now (counts .entry)))) (now (s .entry)) (heardOf (now (s .entry))))
         (changeHeard (configOf unit long (now (inputs .entry)) (now (outputs .entry)) (now (calculations .entry)) (now (files .entry)) (now (values .entry))) (innerOf (coreIn (now (kept .entry))) (areasOf (now (words .entry)) (now (results .entry)) (now (fixed .entry)) (now (block .entry))) (memoryIn (now (kept .entry))) (filesIn (now (values .entry)) (now (area .entry)) (now (counts .entry)))) (now (s .entry)) (heardOf (now (s .entry))))
         (portIn (now (kept .entry)) .mark) (areasOf (now (words .exit)) (now (results .entry)) (now (fixed .exit)) (now (block .exit))) (filesIn (now (values .entry)) (now (area .exit)) (now (counts .exit)))
-        (portIn (now (kept .entry))) (now (kept .exit)) (now (area .entry)) (now (counts .entry)) (now (area .exit)) (now (counts .exit)) (now (buffer .entry)) (now (buffer .exit)) r) ⌝ }
+        (portBy (portIn (now (kept .entry))) (now (s .entry)) (r .outcome)) (now (kept .exit)) (now (area .entry)) (now (counts .entry)) (now (area .exit)) (now (counts .exit)) (now (buffer .entry)) (now (buffer .exit)) r) ⌝ }
 {
     told_long(area, counts);
     let heard = frames::hear(s);
     match heard {
-        Heard::Broken => quiet(Outcome::NotWhole),
-        Heard::Wrong => quiet(Outcome::CheckWrong),
+        Heard::Broken => marked(kept, s, quiet(Outcome::NotWhole)),
+        Heard::Wrong => marked(kept, s, quiet(Outcome::CheckWrong)),
         Heard::Whole(frame) => {
             let body = frames::data_of(s, frame);
             let to = frames::unit_of(frame.address);
@@ -85,9 +96,10 @@ fn judged<'a>(
                 );
             }
             if to == ALL {
-                return broadcast(inputs, kept, words, frame, body);
+                let made = broadcast(inputs, kept, words, frame, body);
+                return marked(kept, s, made);
             }
-            quiet(Outcome::OtherUnit)
+            marked(kept, s, quiet(Outcome::OtherUnit))
         }
     }
 }
@@ -132,7 +144,7 @@ pub fn stretch<'a>(
         block.len(),
         counts,
     ) {
-        let made = judged(
+        return judged(
             unit,
             inputs,
             outputs,
@@ -149,9 +161,6 @@ pub fn stretch<'a>(
             buffer,
             s,
         );
-        let outcome = made.outcome;
-        mark_port(kept, s, outcome);
-        return made;
     }
     quiet(Outcome::NotConfigured)
 }

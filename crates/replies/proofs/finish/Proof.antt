@@ -12,9 +12,6 @@ is-answered-requires c κs = search needs
 reply-function-requires : tie.Need-reply-function-requires
 reply-function-requires c κs = search needs
 
-port-status-requires : tie.Need-port-status-requires
-port-status-requires c κs = search needs
-
 fill-requires : tie.Need-fill-requires
 fill-requires c κs = search needs
 
@@ -23,9 +20,9 @@ same-length c = search needs
 
 returns : tie.Need-returns
 returns c =
-    let s = c .before .before .before .before .before .before .before .before .before in
-    replies-said _ (s .args .outcome) (headOf (s .args .status) (s .args .frame .address) (s .args .frame .function) (s .args .outcome) (s .args .count) (s .args .mark)) _ (sym (c .before .before .before .before .before .before .before .is-answered .ensures) ∙ c .before .before .before .before .before .before .if1 .taken)
-    (λ j. record { address = s .args .frame .address; function = (c .before .before .before .before .before .reply-function .ensures) j; status = s .args .status; port = (c .before .before .before .before .port-status .ensures) j; count = s .args .count })
+    let s = c .before .before .before .before .before .before .before .before in
+    replies-said _ (s .args .outcome) (headOf (s .args .status) (s .args .frame .address) (s .args .frame .function) (s .args .outcome) (s .args .count) (s .args .port)) _ (sym (c .before .before .before .before .before .before .is-answered .ensures) ∙ c .before .before .before .before .before .if1 .taken)
+    (λ j. record { address = s .args .frame .address; function = (c .before .before .before .before .reply-function .ensures) j; status = s .args .status; port = s .args .port; count = s .args .count })
     (c .before .before .fill .ensures)
 
 returns-2 : tie.Need-returns-2
@@ -38,7 +35,6 @@ finish-spec =
     (tie.spec
     is-answered-requires
     reply-function-requires
-    port-status-requires
     fill-requires
     same-length
     returns

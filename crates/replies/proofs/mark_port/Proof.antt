@@ -1,26 +1,51 @@
--- `replies::mark_port` meets its contract. Assumes nothing.
-use mathlib.Core.Path.{ap, _∙_}
-use Rattle.model.specs.declared.Port.{Port}
-use Rattle.numbers.specs.Numbers.{putPort}
-use Rattle.replies.specs.Ends.{portBy}
+-- `replies::mark_port` meets its contract: an empty stretch, a reply, or none. Assumes nothing.
+use mathlib.Core.Path.{sym, _∙_}
 use borrow.Author.Needs.{needs}
+use borrow.Author.Tests.{eq-eqb, ne-eqb}
+use Rattle.numbers.proofs.NumbersLaws.{readable-written, written-readable}
+use Rattle.numbers.proofs.PlaceLaws.{silence-written, mark-written}
+use Rattle.replies.specs.Ends.{markBy, portBy}
 use Rattle.replies.proofs.mark_port.Statement.{statement}
 use Rattle.replies.proofs.mark_port.Tie as tie
 
-port-in-requires : tie.Need-port-in-requires
-port-in-requires c κs = search needs
-
-port-after-requires : tie.Need-port-after-requires
-port-after-requires c κs = search needs
-
-keep-port-requires : tie.Need-keep-port-requires
-keep-port-requires c κs = search needs
-
 returns : tie.Need-returns
-returns c =
-    let s = c .before .before .before .before .before .before in
-    let port = c .before .before .port-after .ensures ∙ ap (λ (p : Port). portBy p (s .args .s .now) (s .args .outcome)) (c .before .before .before .port-in .ensures) in
-    c .keep-port .ensures ∙ ap (λ (p : Port). putPort p (s .args .kept .now)) port
+unfolding portBy
+returns c stands = rw (eq-eqb _ _ (c .if1 .taken)) (readable-written _ stands)
+
+keep-silence-requires : tie.Need-keep-silence-requires
+keep-silence-requires c κs = search needs
+
+is-answered-requires : tie.Need-is-answered-requires
+is-answered-requires c κs = search needs
+
+keep-mark-requires : tie.Need-keep-mark-requires
+keep-mark-requires c κs = search needs
+
+returns-2 : tie.Need-returns-2
+unfolding portBy markBy
+returns-2 c stands =
+    let ended = silence-written (readable-written _ stands) (c .before .before .before .before .keep-silence .ensures) in
+    rw (ne-eqb _ _ (c .before .before .before .before .before .before .if1 .left), sym (c .before .before .before .is-answered .ensures) ∙ c .before .before .if2 .taken) (mark-written ended (c .keep-mark .ensures))
+
+mark-unanswered-requires : tie.Need-mark-unanswered-requires
+mark-unanswered-requires c κs = search needs
+
+returns-3 : tie.Need-returns-3
+unfolding portBy
+returns-3 c stands =
+    let ended = silence-written (readable-written _ stands) (c .before .before .before .before .keep-silence .ensures) in
+    let silent = sym (c .before .before .before .is-answered .ensures) ∙ c .before .before .if2 .left in
+    rw (ne-eqb _ _ (c .before .before .before .before .before .before .if1 .left))
+    (rw (ended .means .core, ended .means .memory, ended .means .port) at (c .mark-unanswered .ensures silent (written-readable ended)))
 
 pub mark-port-spec : {M : Type 1} → statement M
-mark-port-spec = tie.close (tie.spec port-in-requires port-after-requires keep-port-requires returns)
+mark-port-spec =
+    tie.close
+    (tie.spec
+    returns
+    keep-silence-requires
+    is-answered-requires
+    keep-mark-requires
+    returns-2
+    mark-unanswered-requires
+    returns-3)

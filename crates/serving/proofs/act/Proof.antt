@@ -12,7 +12,7 @@ use Rattle.history.specs.Layout.{filesIn}
 use Rattle.points.proofs.AnswerLaws.{in-room, fills-as}
 use Rattle.events.specs.Kept.{areasOf, innerOf}
 use Rattle.commands.proofs.CommandLaws.{internal-stays, return-stays, acts-scan, acts-refused}
-use Rattle.serving.proofs.StepLaws.{step-broken, step-told, step-inputs, step-calculations, step-tables, step-control, step-internal, step-return, step-unknown, acts-control, acts-broken, acted-still, alone-stays}
+use Rattle.serving.proofs.StepLaws.{step-broken, step-told, step-inputs, step-calculations, step-tables, step-control, step-internal, step-return, step-unknown, acts-control, run-leaves, acts-broken, acted-still, alone-stays}
 use Rattle.serving.proofs.TameLaws.{inputs-tame, calculations-tame, tables-tame, control-tame}
 use Rattle.serving.proofs.TellingLaws.{acted-told}
 use borrow.Author.Needs.{needs}
@@ -68,6 +68,9 @@ scan-requires-3 c κs = search needs
 
 scanned-requires-4 : tie.Need-scanned-requires-4
 scanned-requires-4 c κs = search needs
+
+hold-kept-requires-2 : tie.Need-hold-kept-requires-2
+hold-kept-requires-2 c κs = search needs
 
 control-requires : tie.Need-control-requires
 control-requires c κs = search needs
@@ -157,17 +160,17 @@ same-length-5 c = search needs
 returns-6 : tie.Need-returns-6
 unfolding coreIn
 returns-6 c =
-    let s = c .before .before .before .before .before .before .before .before .before .before .before .before .before .before in
+    let s = c .before .before .before .before .before .before .before .before .before .before .before .before .before .before .before .before in
     let ks = s .args .kept .now in
     λ unit long y stands.
     let q = asked (s .args .frame) (s .args .body .now) in
-    let b = sym (c .before .before .before .before .before .before .before .before .breaks-off .ensures ∙ ap (λ (h : Hold). breaks h q) (c .before .before .before .before .before .before .before .before .before .hold-kept .ensures)) ∙ c .before .before .before .before .before .before .before .if1 .left in
+    let b = sym (c .before .before .before .before .before .before .before .before .before .before .breaks-off .ensures ∙ ap (λ (h : Hold). breaks h q) (c .before .before .before .before .before .before .before .before .before .before .before .hold-kept .ensures)) ∙ c .before .before .before .before .before .before .before .before .before .if1 .left in
     let cfg = configOf unit long (s .args .inputs .now) (s .args .outputs .now) (s .args .calculations .now) (s .args .files .now) (s .args .values .now) in
     let fs = filesIn (s .args .values .now) (s .args .area .now) (s .args .counts .now) in
     let i = innerOf (coreIn ks) (areasOf (s .args .words .now) (s .args .results .now) (s .args .fixed .now) (s .args .block .now)) (memoryIn ks) fs in
-    let z = step-control cfg i q b (c .before .before .before .before .before .before .match .keys5) in
-    let ran = rw (c .before .before .before .before .before .before .before .before .before .hold-kept .ensures) at (c .before .before .before .before .control .ensures) in
-    acted-still (alone-stays i _ z) (acts-control i _ (control-tame _ _ q) z ran (c .controlled .ensures .0) (c .controlled .ensures .1 stands) refl)
+    let z = step-control cfg i q b (c .before .before .before .before .before .before .before .before .match .keys5) in
+    let ran = rw (c .before .before .before .before .before .before .hold-kept2 .ensures) at (c .before .before .before .before .control .ensures) in
+    acted-still (alone-stays i _ z) (acts-control i _ (control-tame _ _ q) z ran (c .controlled .ensures .0) (c .controlled .ensures .1 stands (run-leaves (i .core) (i .areas) _ _ q ran)) refl)
 
 same-length-6 : tie.Need-same-length-6
 same-length-6 c = search needs
@@ -239,6 +242,7 @@ act-spec =
     scanned-requires-3
     scan-requires-3
     scanned-requires-4
+    hold-kept-requires-2
     control-requires
     controlled-requires
     internal-requires

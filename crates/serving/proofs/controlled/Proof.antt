@@ -1,20 +1,22 @@
--- `serving::controlled` meets its contract. Assumes nothing.
-use mathlib.Core.Path.{refl}
+-- `serving::controlled` meets its contract: a select that is left stands as it is written. Assumes nothing.
+use mathlib.Core.Path.{refl, sym, _∙_}
 use Rattle.numbers.proofs.NumbersLaws.{readable-written}
 use Rattle.numbers.proofs.PlaceLaws.{hold-written}
 use borrow.Author.Needs.{needs}
 use Rattle.serving.proofs.controlled.Statement.{statement}
 use Rattle.serving.proofs.controlled.Tie as tie
 
+left-requires : tie.Need-left-requires
+left-requires c κs = search needs
+
+returns : tie.Need-returns
+returns c = (refl, λ stands same. rw (same (sym (c .before .left .ensures) ∙ c .if1 .taken)) (readable-written _ stands))
+
 keep-hold-requires : tie.Need-keep-hold-requires
 keep-hold-requires c κs = search needs
 
-returns : tie.Need-returns
-returns c = (refl, λ stands. hold-written (readable-written _ stands) (c .keep-hold .ensures))
+returns-2 : tie.Need-returns-2
+returns-2 c = (refl, λ stands same. hold-written (readable-written _ stands) (c .keep-hold .ensures))
 
 pub controlled-spec : {M : Type 1} → statement M
-controlled-spec =
-    tie.close
-    (tie.spec
-    keep-hold-requires
-    returns)
+controlled-spec = tie.close (tie.spec left-requires returns keep-hold-requires returns-2)

@@ -15,8 +15,8 @@ use Rattle.serving.proofs.served.Tie as tie
 status-in-requires : tie.Need-status-in-requires
 status-in-requires c κs = search needs
 
-port-in-requires : tie.Need-port-in-requires
-port-in-requires c κs = search needs
+port-status-in-requires : tie.Need-port-status-in-requires
+port-status-in-requires c κs = search needs
 
 act-requires : tie.Need-act-requires
 act-requires c κs = search needs
@@ -44,7 +44,7 @@ returns c =
     let fs = filesIn (s .args .values .now) (s .args .area .now) (s .args .counts .now) in
     let i = innerOf (coreIn ks) (areasOf (s .args .words .now) (s .args .results .now) (s .args .fixed .now) (s .args .block .now)) (memoryIn ks) fs in
     let a = c .before .before .before .before .before .before .before .before .before .before .act .ensures unit long y stands in
-    let f = rw (c .before .before .before .before .before .before .before .before .before .before .before .before .before .before .before .before .before .before .before .before .status-in .ensures, c .before .before .before .before .before .before .before .before .before .before .before .before .before .before .before .before .before .before .port-in .ensures) at (c .before .before .before .before .finish .ensures) in
+    let f = rw (c .before .before .before .before .before .before .before .before .before .before .before .before .before .before .before .before .before .before .before .before .status-in .ensures, c .before .before .before .before .before .before .before .before .before .before .before .before .before .before .before .before .before .before .port-status-in .ensures stands) at (c .before .before .before .before .finish .ensures) in
     record { makes = makes-served cfg i q _ (s .pre .0) (a .acts) f (c .settle .ensures (written-readable (a .acts .kept))) refl; changed = a .changed }
 
 pub served-spec : {M : Type 1} → statement M
@@ -52,7 +52,7 @@ served-spec =
     tie.close
     (tie.spec
     status-in-requires
-    port-in-requires
+    port-status-in-requires
     act-requires
     finish-requires
     settle-requires

@@ -31,9 +31,6 @@ judged-requires c κs =
     let l : 520 ≤ length (s .args .buffer .now) = omega (arith, c .before .before .before .before .before .before .before .before .before .before .before .if1 .left) in
     (l, in-range cfg (stateOf cfg (keptIn x)) (judged-fits cfg x refl (c .before .before .before .before .before .before .before .before .fits2 .ensures) (c .before .before .before .before .before .before .before .if2 .taken)) .clock)
 
-mark-port-requires : tie.Need-mark-port-requires
-mark-port-requires c κs = search needs
-
 same-length : tie.Need-same-length
 same-length c = search needs
 
@@ -42,17 +39,16 @@ same-length-2 c = search needs
 
 returns-2 : tie.Need-returns-2
 returns-2 c =
-    let s = c .before .before .before .before .before .before .before .before .before .before .before .before .before .before .before .before .before .before .before .before .before .before in
+    let s = c .before .before .before .before .before .before .before .before .before .before .before .before .before .before .before .before .before .before .before .before in
     let cfg = configOf (s .args .unit) (s .args .length) (s .args .inputs .now) (s .args .outputs .now) (s .args .calculations .now) (s .args .files .now) (s .args .values .now) in
     let x = ownedOf (s .args .kept .now) (s .args .words .now) (s .args .results .now) (s .args .fixed .now) (s .args .block .now) (s .args .area .now) (s .args .counts .now) in
-    let l : 520 ≤ length (s .args .buffer .now) = omega (arith, c .before .before .before .before .before .before .before .before .before .before .before .before .before .before .before .before .before .before .if1 .left) in
-    let j = c .before .before .before .before .before .before .before .before .before .before .before .before .before .before .before .fits2 .ensures in
-    let t = c .before .before .before .before .before .before .before .before .before .before .before .before .before .before .if2 .taken in
+    let l : 520 ≤ length (s .args .buffer .now) = omega (arith, c .before .before .before .before .before .before .before .before .before .before .before .before .before .before .before .before .if1 .left) in
+    let j = c .before .before .before .before .before .before .before .before .before .before .before .before .before .fits2 .ensures in
+    let t = c .before .before .before .before .before .before .before .before .before .before .before .before .if2 .taken in
     let stands = judged-stands cfg x refl j t in
     let fits = judged-fits cfg x refl j t in
     let g = in-range cfg (stateOf cfg (keptIn x)) fits in
-    let made = c .before .before .before .before .before .before .judged .ensures (s .args .length) (g .valid) (g .history) stands in
-    serves-made cfg (s .args .s .now) x (s .args .buffer .now) _ _ stands l fits made (rw (made .makes .kept .means .port) at (c .mark-port .ensures))
+    serves-made cfg (s .args .s .now) x (s .args .buffer .now) _ _ stands l fits (c .before .before .before .before .judged .ensures (s .args .length) (g .valid) (g .history) stands)
 
 quiet-requires-2 : tie.Need-quiet-requires-2
 quiet-requires-2 c κs = search needs
@@ -73,7 +69,6 @@ stretch-spec =
     returns
     fits-requires
     judged-requires
-    mark-port-requires
     same-length
     same-length-2
     returns-2
