@@ -1,7 +1,6 @@
 // Frames: a stretch read as a master's frame, and a reply written round its data in a lent buffer.
 use chars::put_char;
 use chars::put_word;
-use chars::wide;
 use chars::word_at;
 use checkword::check_word;
 use model::Frame;
@@ -9,7 +8,7 @@ use model::Heard;
 use model::Master;
 use model::Reply;
 ghost use mathlib.Core.Path.{_≡_};
-ghost use Prim.Native.Nat.{_≤_};
+ghost use Prim.Native.Nat.{_-_, _≤_};
 ghost use lib.ListN.{length};
 ghost use Rattle.chars.specs.Put.{put, part};
 ghost use Rattle.model.specs.Frame.{unitOf, masterOf, addressOf, heardOf, headChars};
@@ -62,19 +61,15 @@ pub fn hear(stretch: &[u8]) -> Heard
     Heard::Whole(Frame::new(address, stretch[2], stretch[3], count as u8))
 }
 
-// The frame may be another stretch's: what of its data is not there is left out.
-pub fn data_of<'a>(stretch: &'a [u8], frame: Frame) -> &'a [u8]
-    ensures { λ r. ⌜ now r ≡ part (now (stretch .entry)) 6 (frame .count) ⌝ }
+// The data stand between head and check; a stretch too short for both has none.
+pub fn data_of<'a>(stretch: &'a [u8]) -> &'a [u8]
+    ensures { λ r. ⌜ now r ≡ part (now (stretch .entry)) 6 (length (now (stretch .entry)) - 8) ⌝ }
 {
     let len = stretch.len();
-    let count = wide(frame.count);
-    if len <= DATA {
+    if len < Frame::SHORTEST {
         return &stretch[..0];
     }
-    if len - DATA < count {
-        return &stretch[DATA..];
-    }
-    let end = DATA + count;
+    let end = len - 2;
     &stretch[DATA..end]
 }
 

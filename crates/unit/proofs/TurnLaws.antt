@@ -1,7 +1,7 @@
 -- A stretch: what its parts made, put together. Assumes nothing.
 use native.Mathlib.Omega.{arith}
 use mathlib.Core.Path.{_≡_, refl, sym, ap, _∙_}
-use Prim.Native.Nat.{ℕ, _≤_, _<_}
+use Prim.Native.Nat.{ℕ, _-_, _≤_, _<_}
 use mathlib.Core.List.{List}
 use mathlib.Core.Bool.{true, false}
 use lib.ListN.{length}
@@ -41,6 +41,9 @@ use Rattle.unit.proofs.MarkLaws.{port-judged}
 
 -- ---- a stretch that a working unit hears
 
+frame-data : (s : List ℕ) (f : Frame) {body : List ℕ} → heardOf s ≡ Whole f → body ≡ part s 6 (length s - 8) → body ≡ part s 6 (f .count)
+frame-data s f h b = let n : length s - 8 ≡ f .count = omega (arith, heard-whole s f h .count) in b ∙ ap (part s 6) n
+
 module _ (c : Config) (i : Inner) (s : List ℕ) (mark : Mark) (p : Port) {area held entry : List ℕ} {x : MadeOf} where
   module _ {ks : List ℕ} (k : Written (i .core) (i .history .memory) p ks) where
     pub judged-broken : heardOf s ≡ Broken → x ≡ record { outcome = NotWhole; action = Rest; sent = 0 }
@@ -53,7 +56,7 @@ module _ (c : Config) (i : Inner) (s : List ℕ) (mark : Mark) (p : Port) {area 
     unfolding judged changeHeard
     judged-wrong h e = rw h (record { makes = makes-quiet i mark entry CheckWrong e k; changed = still area held })
 
-  module _ (f : Frame) {body : List ℕ} {to : ℕ} (h : heardOf s ≡ Whole f) (b : body ≡ part s 6 (f .count)) (u : to ≡ unitOf (f .address)) where
+  module _ (f : Frame) {body : List ℕ} {to : ℕ} (h : heardOf s ≡ Whole f) (b : body ≡ part s 6 (length s - 8)) (u : to ≡ unitOf (f .address)) where
     -- for this unit
     pub judged-own : {a : Areas} {fs : Files} {ls area′ held′ exit : List ℕ} → to ≡ c .unit
         → MakesIn (served c i (asked f body)) (stepOf c i (asked f body) .change) mark a fs (heardBy p (x .outcome)) ls area held area′ held′ entry exit x
@@ -61,7 +64,7 @@ module _ (c : Config) (i : Inner) (s : List ℕ) (mark : Mark) (p : Port) {area 
     unfolding judged framed changeHeard changeFramed requestIn portBy
     judged-own t w =
         let long : length s ≡ 0 → ⊥ = λ e. absurd (omega (arith, heard-whole s f h .short)) in
-        rw (h, eq-eqb (unitOf (f .address)) (c .unit) (sym u ∙ t), ← b, ne-eqb (length s) 0 long) w
+        rw (h, eq-eqb (unitOf (f .address)) (c .unit) (sym u ∙ t), ← frame-data s f h b, ne-eqb (length s) 0 long) w
 
     -- for all
     pub judged-all : {a : Areas} {fs : Files} {ls : List ℕ} → (to ≡ c .unit → ⊥) → to ≡ 0x7FF
@@ -69,7 +72,7 @@ module _ (c : Config) (i : Inner) (s : List ℕ) (mark : Mark) (p : Port) {area 
         → MakesIn (judged c i s (heardOf s)) (changeHeard c i s (heardOf s)) mark a fs p ls area held area held entry entry x
     unfolding judged framed changeHeard changeFramed requestIn
     judged-all n t w =
-        rw (h, ne-eqb (unitOf (f .address)) (c .unit) (λ e. n (u ∙ e)), eq-eqb (unitOf (f .address)) broadcastUnit (sym u ∙ t), ← b)
+        rw (h, ne-eqb (unitOf (f .address)) (c .unit) (λ e. n (u ∙ e)), eq-eqb (unitOf (f .address)) broadcastUnit (sym u ∙ t), ← frame-data s f h b)
         (record { makes = w; changed = still area held })
 
     -- for another

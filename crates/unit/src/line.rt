@@ -74,7 +74,7 @@ fn judged<'a>(
         Heard::Broken => marked(kept, s, quiet(Outcome::NotWhole)),
         Heard::Wrong => marked(kept, s, quiet(Outcome::CheckWrong)),
         Heard::Whole(frame) => {
-            let body = frames::data_of(s, frame);
+            let body = frames::data_of(s);
             let to = frames::unit_of(frame.address);
             if to == unit {
                 return served(

@@ -1,26 +1,29 @@
--- `frames::data_of` meets its contract, a return for nothing, less, or all of what is asked for.
+-- `frames::data_of` meets its contract: nothing, or what stands between head and check.
 -- Assumes nothing.
-use mathlib.Core.Path.{sym}
+use mathlib.Core.Path.{_≡_, refl}
+use Prim.Native.Nat.{_-_}
 use native.Mathlib.Omega.{arith}
+use lib.ListN.{length}
 use borrow.Author.Needs.{needs}
-use Rattle.frames.proofs.DataLaws.{part-past, part-rest, part-is}
+use Rattle.chars.specs.Put.{part}
+use Rattle.frames.proofs.DataLaws.{part-up}
 use Rattle.frames.proofs.data_of.Statement.{statement}
 use Rattle.frames.proofs.data_of.Tie as tie
-
-wide-requires : tie.Need-wide-requires
-wide-requires c κs = search needs
 
 slice-aggregate-result : tie.Need-slice-aggregate-result
 slice-aggregate-result c = search needs
 
 returns : tie.Need-returns
-returns c = sym (part-past _ 6 _ (omega arith))
+unfolding part
+returns c =
+    let none : length (c .before .before .args .stretch .now) - 8 ≡ 0 = omega (arith, c .before .if1 .taken) in
+    rw none refl
 
-sub-if2 : tie.Need-sub-if2
-sub-if2 c = search needs
+sub-end : tie.Need-sub-end
+sub-end c = omega arith
 
 sub-result : tie.Need-sub-result
-sub-result c = search needs
+sub-result c = omega arith
 
 part-result-start : tie.Need-part-result-start
 part-result-start c = search needs
@@ -29,37 +32,18 @@ part-result-end : tie.Need-part-result-end
 part-result-end c = search needs
 
 returns-2 : tie.Need-returns-2
-returns-2 c = part-rest _ 6 _ (omega arith)
-
-add-end : tie.Need-add-end
-add-end c = search needs
-
-sub-result-2 : tie.Need-sub-result-2
-sub-result-2 c = search needs
-
-part-result-start-2 : tie.Need-part-result-start-2
-part-result-start-2 c = search needs
-
-part-result-end-2 : tie.Need-part-result-end-2
-part-result-end-2 c = search needs
-
-returns-3 : tie.Need-returns-3
-returns-3 c = part-is _ 6 _ _ (c .before .before .before .wide .ensures .0)
+returns-2 c =
+    let n = length (c .before .before .args .stretch .now) in
+    part-up _ 6 (n - 2) (n - 8) (omega arith)
 
 pub data-of-spec : {M : Type 1} → statement M
 data-of-spec =
     tie.close
     (tie.spec
-    wide-requires
     slice-aggregate-result
     returns
-    sub-if2
+    sub-end
     sub-result
     part-result-start
     part-result-end
-    returns-2
-    add-end
-    sub-result-2
-    part-result-start-2
-    part-result-end-2
-    returns-3)
+    returns-2)
