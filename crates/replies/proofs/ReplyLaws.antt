@@ -4,22 +4,27 @@ use Prim.Native.Nat.{ℕ, _+_, _%_}
 use mathlib.Core.List.{List}
 use mathlib.Core.Bool.{true, false}
 use lib.ListN.{length, getD}
+use lib.Dec.{eqb}
 use Rattle.chars.specs.Put.{put}
 use Rattle.chars.proofs.PutLaws.{put-none}
-use Rattle.model.specs.Outcome.{sendingOf}
+use Rattle.model.specs.Outcome.{sendingOf, damaged}
 use Rattle.model.specs.Step.{Said, silent, said, sentAs, answered}
 use Rattle.model.specs.Port.{portStatus}
+use Rattle.model.specs.declared.Core.{Core}
+use Rattle.model.specs.declared.Memory.{Memory}
+use Rattle.model.specs.declared.Port.{Port}
 use Rattle.model.specs.declared.Mark.{Mark}
 use Rattle.model.specs.declared.Mark.the-variants.{Fine, Silent, Damaged}
 use Rattle.model.specs.declared.Outcome.{Outcome}
 use Rattle.model.specs.declared.Sending.{Sending}
 use Rattle.model.specs.declared.Sending.the-variants.{Normal, Nop, Rst, Unanswered}
 use Rattle.model.specs.declared.Reply.{Reply}
-use Rattle.model.proofs.Conditions.{false-true}
+use Rattle.model.proofs.Conditions.{by-bool, false-true}
 use Rattle.frames.specs.Framed.{framedIn}
-use Rattle.numbers.specs.Numbers.{markNumber, numbersOf, portIn, readable}
+use Rattle.numbers.specs.Numbers.{markNumber, numbersOf, coreIn, memoryIn, portIn, readable, Written}
 use Rattle.numbers.proofs.NumbersLaws.{readable-written}
-use Rattle.replies.specs.Ends.{repliedIn, Replies}
+use Rattle.numbers.proofs.PlaceLaws.{silence-written, mark-written}
+use Rattle.replies.specs.Ends.{repliedIn, Replies, markBy, portBy, statusAt, unansweredIn, heardIn}
 
 -- ---- what is sent
 
@@ -45,10 +50,28 @@ status-marked Fine = refl
 status-marked Silent = refl
 status-marked Damaged = refl
 
-pub status-numbered : (ks : List ℕ) → readable ks ≡ true → 0x54 + getD ks 25 0 % 4 ≡ portStatus (portIn ks .mark)
+pub status-numbered : (ks : List ℕ) → readable ks ≡ true → statusAt ks ≡ portStatus (portIn ks .mark)
 unfolding numbersOf
 status-numbered ks e =
     ap (λ (ls : List ℕ). 0x54 + getD ls 25 0 % 4) (readable-written ks e .plain) ∙ status-marked (portIn ks .mark)
+
+-- ---- the port after a stretch, in numbers that stood
+
+pub unanswered-written : {k : Core} {w : Memory} {p : Port} {ks ls : List ℕ} → Written k w p ks → (o : Outcome) → answered (sendingOf o) ≡ false
+    → ls ≡ unansweredIn ks o → Written k w (record { silence = p .silence; mark = markBy (p .mark) o }) ls
+unfolding markBy
+unanswered-written a o n e =
+    by-bool (damaged o) (λ d. rw (n, d) (mark-written a (rw d at e))) (λ d. rw (n, d, rw d at e) a)
+
+pub heard-written : (ks s : List ℕ) (o : Outcome) {ls : List ℕ} → readable ks ≡ true → ls ≡ heardIn ks s o
+    → Written (coreIn ks) (memoryIn ks) (portBy (portIn ks) s o) ls
+unfolding heardIn portBy markBy
+heard-written ks s o stands e =
+    let ended = silence-written (readable-written ks stands) refl in
+    by-bool (eqb (length s) 0)
+    (λ z. rw (z, rw z at e) (readable-written ks stands))
+    (λ z. by-bool (answered (sendingOf o)) (λ a. rw (z, a) (mark-written ended (rw (z, a) at e)))
+    (λ a. rw z (unanswered-written ended o a (rw (z, a) at e))))
 
 -- ---- head and check laid round the data, or nothing
 

@@ -27,9 +27,8 @@ ghost use Rattle.model.specs.Frame.{asked, masterOf};
 ghost use Rattle.model.specs.Blocks.{dropped};
 ghost use Rattle.model.specs.Outcome.{numberOf, sendingOf, damaged};
 ghost use Rattle.model.specs.Step.{answered, statusOf, withWrite, withBroadcast, settled};
-ghost use Rattle.model.specs.Port.{portStatus};
 ghost use Rattle.numbers.specs.Numbers.{coreIn, memoryIn, portIn, readable, Written};
-ghost use Rattle.replies.specs.Ends.{Replies, headOf, markBy, heardBy, portBy};
+ghost use Rattle.replies.specs.Ends.{Replies, headOf, heardBy, statusAt, unansweredIn, heardIn};
 
 fn is_answered(outcome: Outcome) -> bool
     ensures { λ r. ⌜ r ≡ answered (sendingOf outcome) ⌝ }
@@ -62,7 +61,7 @@ pub fn status_in<'a>(kept: &'a [u16; 26]) -> u8
 
 // The mark's number is at most 2 where the numbers stand.
 pub fn port_status_in<'a>(kept: &'a [u16; 26]) -> u8
-    ensures { λ r. ⌜ (readable (now (kept .entry)) ≡ true → r ≡ portStatus (portIn (now (kept .entry)) .mark)) ⌝ }
+    ensures { λ r. ⌜ r ≡ statusAt (now (kept .entry)) ⌝ }
 {
     0x54 + (mark_at(kept) % 4) as u8
 }
@@ -126,8 +125,7 @@ fn is_damaged(outcome: Outcome) -> bool
 
 // The mark that the outcome leaves is not written again.
 fn mark_unanswered(kept: &mut [u16; 26], outcome: Outcome)
-    ensures { λ _. ⌜ (answered (sendingOf outcome) ≡ false → readable (now (kept .entry)) ≡ true → Written (coreIn (now (kept .entry))) (memoryIn (now (kept .entry)))
-        (record { silence = portIn (now (kept .entry)) .silence; mark = markBy (portIn (now (kept .entry)) .mark) outcome }) (now (kept .exit))) ⌝ }
+    ensures { λ _. ⌜ now (kept .exit) ≡ unansweredIn (now (kept .entry)) outcome ⌝ }
 {
     if is_damaged(outcome) {
         keep_mark(kept, Mark::Damaged);
@@ -136,7 +134,7 @@ fn mark_unanswered(kept: &mut [u16; 26], outcome: Outcome)
 
 // An empty stretch leaves all.
 pub fn mark_port(kept: &mut [u16; 26], s: &[u8], ended: Outcome)
-    ensures { λ _. ⌜ (readable (now (kept .entry)) ≡ true → Written (coreIn (now (kept .entry))) (memoryIn (now (kept .entry))) (portBy (portIn (now (kept .entry))) (now (s .entry)) ended) (now (kept .exit))) ⌝ }
+    ensures { λ _. ⌜ now (kept .exit) ≡ heardIn (now (kept .entry)) (now (s .entry)) ended ⌝ }
 {
     if s.len() == 0 {
         return;

@@ -23,7 +23,7 @@ use Rattle.model.specs.declared.Mark.{Mark}
 use Rattle.model.specs.declared.Port.{Port}
 use Rattle.model.proofs.Conditions.{false-true, by-bool}
 use Rattle.model.proofs.FrameLaws.{heard-whole}
-use Rattle.numbers.specs.Numbers.{coreIn, memoryIn, portIn, readable, Written}
+use Rattle.numbers.specs.Numbers.{portIn, readable, Written}
 use Rattle.numbers.proofs.NumbersLaws.{written-readable}
 use Rattle.history.specs.Layout.{filesIn}
 use Rattle.history.specs.Change.{Change}
@@ -31,7 +31,8 @@ use Rattle.model.proofs.TurnedAway.{short-away, unfit-away, works}
 use Rattle.events.specs.Kept.{Kept, areasOf, innerOf, stateOf, Owned, keptIn}
 use Rattle.events.specs.Changes.{stepOf, changeFramed, changeHeard, changeMade, changeOf}
 use Rattle.events.proofs.HeedLaws.{still}
-use Rattle.replies.specs.Ends.{heardBy, portBy}
+use Rattle.replies.specs.Ends.{heardBy, portBy, heardIn}
+use Rattle.replies.proofs.ReplyLaws.{heard-written}
 use Rattle.commands.specs.declared.Made.{Made as MadeOf}
 use Rattle.commands.specs.Acts.{Makes}
 use Rattle.commands.proofs.BroadcastLaws.{makes-quiet}
@@ -144,7 +145,7 @@ module _ (c : Config) (s : List ℕ) (x : Owned) (entry : List ℕ) {r : MadeOf}
 -- what was made of a stretch, and the port marked by it
 pub makes-marked : (s : List ℕ) {m : Made} {ch : Change} {mark : Mark} {a : Areas} {fs : Files} {p : Port} {ks ls area held area′ held′ entry exit : List ℕ} {r x : MadeOf}
     → MakesIn m ch mark a fs p ks area held area′ held′ entry exit r
-    → (x ≡ r) × (readable ks ≡ true → Written (coreIn ks) (memoryIn ks) (portBy (portIn ks) s (r .outcome)) ls)
+    → (x ≡ r) × (ls ≡ heardIn ks s (r .outcome))
     → MakesIn m ch mark a fs (portBy p s (x .outcome)) ls area held area′ held′ entry exit x
 makes-marked s v n =
     let z = v .makes in
@@ -156,7 +157,7 @@ makes-marked s v n =
         counted = z .counted;
         inside = z .inside;
         written = z .written;
-        kept = rw (z .kept .means .core, z .kept .means .memory, z .kept .means .port) at (n .1 (written-readable (z .kept)));
+        kept = rw (z .kept .means .core, z .kept .means .memory, z .kept .means .port) at (heard-written _ s _ (written-readable (z .kept)) (n .1));
         areas = z .areas;
         files = z .files;
       };

@@ -19,8 +19,8 @@ ghost use Rattle.model.specs.Fits.{historyFits};
 ghost use Rattle.model.specs.Step.{judged};
 ghost use Rattle.history.specs.Layout.{filesIn};
 ghost use Rattle.judge.specs.Judged.{configOf};
-ghost use Rattle.numbers.specs.Numbers.{coreIn, memoryIn, portIn, readable, Written};
-ghost use Rattle.replies.specs.Ends.{portBy};
+ghost use Rattle.numbers.specs.Numbers.{coreIn, memoryIn, portIn, readable};
+ghost use Rattle.replies.specs.Ends.{portBy, heardIn};
 ghost use Rattle.events.specs.Kept.{areasOf, innerOf, ownedOf};
 ghost use Rattle.events.specs.Changes.{changeHeard};
 ghost use Rattle.serving.specs.Served.{MakesIn};
@@ -35,7 +35,7 @@ fn told_long(area: &[u8], counts: &[u8]) {}
 // What is not for this unit leaves its mark on the port.
 fn marked(kept: &mut [u16; 26], s: &[u8], made: Made) -> Made
     ensures { λ r. ⌜ (r ≡ made)
-        × (readable (now (kept .entry)) ≡ true → Written (coreIn (now (kept .entry))) (memoryIn (now (kept .entry))) (portBy (portIn (now (kept .entry))) (now (s .entry)) (made .outcome)) (now (kept .exit))) ⌝ }
+        × (now (kept .exit) ≡ heardIn (now (kept .entry)) (now (s .entry)) (made .outcome)) ⌝ }
 {
     let outcome = made.outcome;
     mark_port(kept, s, outcome);

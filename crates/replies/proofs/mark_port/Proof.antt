@@ -1,16 +1,14 @@
 -- `replies::mark_port` meets its contract: an empty stretch, a reply, or none. Assumes nothing.
-use mathlib.Core.Path.{sym, _∙_}
+use mathlib.Core.Path.{refl, sym, _∙_}
 use borrow.Author.Needs.{needs}
 use borrow.Author.Tests.{eq-eqb, ne-eqb}
-use Rattle.numbers.proofs.NumbersLaws.{readable-written, written-readable}
-use Rattle.numbers.proofs.PlaceLaws.{silence-written, mark-written}
-use Rattle.replies.specs.Ends.{markBy, portBy}
+use Rattle.replies.specs.Ends.{heardIn}
 use Rattle.replies.proofs.mark_port.Statement.{statement}
 use Rattle.replies.proofs.mark_port.Tie as tie
 
 returns : tie.Need-returns
-unfolding portBy
-returns c stands = rw (eq-eqb _ _ (c .if1 .taken)) (readable-written _ stands)
+unfolding heardIn
+returns c = rw (eq-eqb _ _ (c .if1 .taken)) refl
 
 keep-silence-requires : tie.Need-keep-silence-requires
 keep-silence-requires c κs = search needs
@@ -22,21 +20,17 @@ keep-mark-requires : tie.Need-keep-mark-requires
 keep-mark-requires c κs = search needs
 
 returns-2 : tie.Need-returns-2
-unfolding portBy markBy
-returns-2 c stands =
-    let ended = silence-written (readable-written _ stands) (c .before .before .before .before .keep-silence .ensures) in
-    rw (ne-eqb _ _ (c .before .before .before .before .before .before .if1 .left), sym (c .before .before .before .is-answered .ensures) ∙ c .before .before .if2 .taken) (mark-written ended (c .keep-mark .ensures))
+unfolding heardIn
+returns-2 c =
+    rw (ne-eqb _ _ (c .before .before .before .before .before .before .if1 .left), sym (c .before .before .before .is-answered .ensures) ∙ c .before .before .if2 .taken, ← (c .before .before .before .before .keep-silence .ensures)) (c .keep-mark .ensures)
 
 mark-unanswered-requires : tie.Need-mark-unanswered-requires
 mark-unanswered-requires c κs = search needs
 
 returns-3 : tie.Need-returns-3
-unfolding portBy
-returns-3 c stands =
-    let ended = silence-written (readable-written _ stands) (c .before .before .before .before .keep-silence .ensures) in
-    let silent = sym (c .before .before .before .is-answered .ensures) ∙ c .before .before .if2 .left in
-    rw (ne-eqb _ _ (c .before .before .before .before .before .before .if1 .left))
-    (rw (ended .means .core, ended .means .memory, ended .means .port) at (c .mark-unanswered .ensures silent (written-readable ended)))
+unfolding heardIn
+returns-3 c =
+    rw (ne-eqb _ _ (c .before .before .before .before .before .before .if1 .left), sym (c .before .before .before .is-answered .ensures) ∙ c .before .before .if2 .left, ← (c .before .before .before .before .keep-silence .ensures)) (c .mark-unanswered .ensures)
 
 pub mark-port-spec : {M : Type 1} → statement M
 mark-port-spec =

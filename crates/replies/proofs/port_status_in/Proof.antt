@@ -1,8 +1,7 @@
--- `replies::port_status_in` meets its contract: the mark's number is the one that is written for it. Assumes nothing.
-use mathlib.Core.Path.{ap, _∙_}
+-- `replies::port_status_in` meets its contract. Assumes nothing.
+use mathlib.Core.Path.{ap}
 use Prim.Native.Nat.{_+_, _%_}
 use borrow.Author.Needs.{needs}
-use Rattle.replies.proofs.ReplyLaws.{status-numbered}
 use Rattle.replies.proofs.port_status_in.Statement.{statement}
 use Rattle.replies.proofs.port_status_in.Tie as tie
 
@@ -16,7 +15,7 @@ add-result : tie.Need-add-result
 add-result c = search needs
 
 returns : tie.Need-returns
-returns c stands = ap (λ n. 0x54 + n % 4) (c .mark-at .ensures) ∙ status-numbered _ stands
+returns c = ap (λ n. 0x54 + n % 4) (c .mark-at .ensures)
 
 pub port-status-in-spec : {M : Type 1} → statement M
 port-status-in-spec = tie.close (tie.spec mark-at-requires cast-result add-result returns)

@@ -1,9 +1,10 @@
 -- `replies::settle_line` meets its contract: a reply, or none. Assumes nothing.
 use mathlib.Core.Path.{sym, _∙_}
 use borrow.Author.Needs.{needs}
-use Rattle.numbers.proofs.NumbersLaws.{readable-written, written-readable}
+use Rattle.numbers.proofs.NumbersLaws.{readable-written}
 use Rattle.numbers.proofs.PlaceLaws.{broadcast-written, silence-written, mark-written}
 use Rattle.replies.specs.Ends.{markBy}
+use Rattle.replies.proofs.ReplyLaws.{unanswered-written}
 use Rattle.replies.proofs.settle_line.Statement.{statement}
 use Rattle.replies.proofs.settle_line.Tie as tie
 
@@ -33,7 +34,7 @@ returns-2 : tie.Need-returns-2
 returns-2 c stands =
     let ended = silence-written (readable-written _ stands) (c .before .before .before .before .keep-silence .ensures) in
     let silent = sym (c .before .before .before .is-answered .ensures) ∙ c .before .before .if1 .left in
-    rw silent (rw (ended .means .core, ended .means .memory, ended .means .port) at (c .mark-unanswered .ensures silent (written-readable ended)))
+    rw silent (unanswered-written ended _ silent (c .mark-unanswered .ensures))
 
 pub settle-line-spec : {M : Type 1} → statement M
 settle-line-spec =

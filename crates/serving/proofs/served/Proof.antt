@@ -1,5 +1,5 @@
 -- `serving::served` meets its contract. Assumes nothing.
-use mathlib.Core.Path.{refl}
+use mathlib.Core.Path.{refl, _∙_}
 use Rattle.model.specs.Frame.{asked}
 use Rattle.model.specs.Step.{settled}
 use Rattle.numbers.specs.Numbers.{coreIn, memoryIn}
@@ -7,6 +7,7 @@ use Rattle.numbers.proofs.NumbersLaws.{written-readable}
 use Rattle.judge.specs.Judged.{configOf}
 use Rattle.history.specs.Layout.{filesIn}
 use Rattle.events.specs.Kept.{areasOf, innerOf}
+use Rattle.replies.proofs.ReplyLaws.{status-numbered}
 use Rattle.serving.proofs.ServedLaws.{makes-served}
 use borrow.Author.Needs.{needs}
 use Rattle.serving.proofs.served.Statement.{statement}
@@ -44,7 +45,7 @@ returns c =
     let fs = filesIn (s .args .values .now) (s .args .area .now) (s .args .counts .now) in
     let i = innerOf (coreIn ks) (areasOf (s .args .words .now) (s .args .results .now) (s .args .fixed .now) (s .args .block .now)) (memoryIn ks) fs in
     let a = c .before .before .before .before .before .before .before .before .before .before .act .ensures unit long y stands in
-    let f = rw (c .before .before .before .before .before .before .before .before .before .before .before .before .before .before .before .before .before .before .before .before .status-in .ensures, c .before .before .before .before .before .before .before .before .before .before .before .before .before .before .before .before .before .before .port-status-in .ensures stands) at (c .before .before .before .before .finish .ensures) in
+    let f = rw (c .before .before .before .before .before .before .before .before .before .before .before .before .before .before .before .before .before .before .before .before .status-in .ensures, c .before .before .before .before .before .before .before .before .before .before .before .before .before .before .before .before .before .before .port-status-in .ensures ∙ status-numbered ks stands) at (c .before .before .before .before .finish .ensures) in
     record { makes = makes-served cfg i q _ (s .pre .0) (a .acts) f (c .settle .ensures (written-readable (a .acts .kept))) refl; changed = a .changed }
 
 pub served-spec : {M : Type 1} → statement M
