@@ -1,6 +1,8 @@
 // Three units side by side, and the functions whose calls are counted.
 #include "units.h"
 
+#include "cycles.h"
+
 #include <stdio.h>
 #include <stdlib.h>
 #include <string.h>
@@ -46,6 +48,63 @@ static uint8_t agreed(const char *what, int library, int plain, int rust)
     return library;
 }
 
+// ---- cycles of an event that is repeated
+
+// What an event changes in a unit. Only that is put back between repetitions: a copy of the whole would push what the event reads out of
+// the nearest cache.
+static struct {
+    uint32_t at;
+    uint8_t was;
+} changes[sizeof(struct osturdam_unit)];
+static size_t many_changes;
+
+static void learn(const struct osturdam_unit *before, const struct osturdam_unit *after)
+{
+    const uint8_t *a = (const uint8_t *)before, *b = (const uint8_t *)after;
+    many_changes = 0;
+    for (size_t i = 0; i < sizeof *before; i++)
+        if (a[i] != b[i]) {
+            changes[many_changes].at = i;
+            changes[many_changes++].was = a[i];
+        }
+}
+
+static void put_back(struct osturdam_unit *unit)
+{
+    for (size_t i = 0; i < many_changes; i++)
+        ((uint8_t *)unit)[changes[i].at] = changes[i].was;
+}
+
+static void take_again(struct units *u, const struct rust_unit *found)
+{
+    rust_end(u->rust);
+    u->rust = rust_copy(found);
+}
+
+#define TELL_IN_C(unit, counted, ...)                                   \
+    do {                                                                \
+        static struct osturdam_unit before;                             \
+        before = *(unit);                                               \
+        counted(u, __VA_ARGS__);                                        \
+        learn(&before, unit);                                           \
+        TELL_CYCLES(#counted, put_back(unit), counted(u, __VA_ARGS__)); \
+        put_back(unit);                                                 \
+    } while (0)
+
+// The cycles of one event of each unit; the units are left as they were found.
+#define TELL_UNITS(kind, ...)                                                          \
+    do {                                                                               \
+        TELL_IN_C(&u->library, library_##kind, __VA_ARGS__);                           \
+        TELL_IN_C(&u->plain, plain_##kind, __VA_ARGS__);                               \
+        struct rust_unit *found = u->rust;                                             \
+        u->rust = rust_copy(found);                                                    \
+        TELL_CYCLES("rust_" #kind, take_again(u, found), rust_##kind(u, __VA_ARGS__)); \
+        rust_end(u->rust);                                                             \
+        u->rust = found;                                                               \
+    } while (0)
+
+// ---- events of all three
+
 void fresh(struct units *u)
 {
     osturdam_unit_fresh(&u->config, &u->library);
@@ -72,10 +131,12 @@ size_t frame(uint8_t *to, unsigned master, unsigned unit, unsigned function, uns
 uint8_t stretch(struct units *u, const uint8_t *s, size_t n, int counted)
 {
     uint8_t a[OSTURDAM_REPLY], b[OSTURDAM_REPLY], c[OSTURDAM_REPLY];
+    struct osturdam_turned library, plain, rust;
+    if (counted && cycles_asked())
+        TELL_UNITS(counted, s, n, a);
     memset(a, 0xA5, sizeof a);
     memset(b, 0xA5, sizeof b);
     memset(c, 0xA5, sizeof c);
-    struct osturdam_turned library, plain, rust;
     if (counted) {
         library = library_counted(u, s, n, a);
         plain = plain_counted(u, s, n, b);
@@ -94,6 +155,8 @@ uint8_t stretch(struct units *u, const uint8_t *s, size_t n, int counted)
 
 uint8_t store_record(struct units *u, uint8_t file, uint8_t event, const uint16_t *given, size_t many, int counted)
 {
+    if (counted && cycles_asked())
+        TELL_UNITS(store, file, event, given, many);
     if (counted)
         return agreed("store", library_store(u, file, event, given, many), plain_store(u, file, event, given, many),
                       rust_store(u, file, event, given, many));

@@ -1,4 +1,7 @@
-// Calls each of the three functions once on n fixed characters; its answers must be those of the bitwise division.
+// Calls each of the three functions once on n fixed characters; its answers must be those of the bitwise division. Where cycles are asked
+// for, they are told.
+#include "cycles.h"
+
 #include <stddef.h>
 #include <stdint.h>
 #include <stdio.h>
@@ -37,6 +40,11 @@ int main(int argc, char **argv)
     for (size_t i = 0; i < n; i++) {
         seed = seed * 1103515245 + 12345;
         s[i] = seed >> 16;
+    }
+    if (cycles_asked()) {
+        TELL_CYCLES("check_word", , check_word(s, n));
+        TELL_CYCLES("c_check_word", , c_check_word(s, n));
+        TELL_CYCLES("rust_check_word", , rust_check_word(s, n));
     }
     return wrong("check_word", check_word(s, n), s, n) || wrong("C", c_check_word(s, n), s, n) ||
            wrong("Rust", rust_check_word(s, n), s, n);

@@ -10,6 +10,7 @@ enum { LINE = 3 };
 
 uint8_t request[REQUEST], written[MODBUS_RTU_MAX_ADU_LENGTH];
 size_t taken, put;
+int silent;
 
 int select(int n, fd_set *reads, fd_set *writes, fd_set *others, struct timeval *most)
 {
@@ -32,7 +33,8 @@ ssize_t read(int line, void *to, size_t n)
 
 ssize_t write(int line, const void *from, size_t n)
 {
-    copy(written, from, n);
+    if (!silent)
+        copy(written, from, n);
     put = n;
     return n;
 }

@@ -14,6 +14,9 @@ enum { SLAVE = 17, REQUEST = 8 };
 extern uint8_t request[REQUEST], written[MODBUS_RTU_MAX_ADU_LENGTH];
 extern size_t taken, put;
 
+// Nothing that is written is copied: for cycles, of which the line's cannot be told from the others'.
+extern int silent;
+
 // A context of Modbus RTU on this line.
 modbus_t *on_line(void);
 

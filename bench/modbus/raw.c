@@ -1,5 +1,6 @@
 // libmodbus's check word has no name of its own to count. A raw request copies its n characters and puts check characters behind them:
 // what it grows by from one length to another is the copy and the check of the characters between.
+#include "cycles.h"
 #include "modbus/line.h"
 
 #include <stdlib.h>
@@ -19,8 +20,13 @@ int main(int argc, char **argv)
     must(n >= LEAST && n <= MOST, "usage: raw CHARACTERS");
     for (int i = 2; i < n; i++)
         s[i] = 37 * i;
-    int sent = raw_counted(on_line(), s, n);
+    modbus_t *m = on_line();
+    int sent = raw_counted(m, s, n);
     close_frame(s, n);
     must(sent == n + 2 && put == (size_t)sent && memcmp(written, s, sent) == 0, "another frame than its characters");
+    if (cycles_asked()) {
+        silent = 1;
+        TELL_CYCLES("raw_counted", , raw_counted(m, s, n));
+    }
     return 0;
 }

@@ -1,4 +1,5 @@
 // libmodbus's server side of one read of n holding registers, on an RTU context: from a request in hand to the reply handed over.
+#include "cycles.h"
 #include "modbus/line.h"
 
 #include <stdlib.h>
@@ -46,5 +47,12 @@ int main(int argc, char **argv)
     uint8_t heard[MODBUS_RTU_MAX_ADU_LENGTH];
     must_be_right(whole ? served_counted(m, heard, registers) : replied_counted(m, registers), registers->tab_registers, n);
     must(!whole || taken == REQUEST, "not the whole request was read");
+    if (cycles_asked()) {
+        silent = 1;
+        if (whole)
+            TELL_CYCLES("served_counted", taken = 0, served_counted(m, heard, registers));
+        else
+            TELL_CYCLES("replied_counted", , replied_counted(m, registers));
+    }
     return 0;
 }

@@ -44,7 +44,7 @@ fn config(c: &CConfig) -> Config {
     config
 }
 
-/// A fresh unit, which is never given back.
+/// A fresh unit, the caller's until `rust_end`.
 #[no_mangle]
 pub extern "C" fn rust_fresh(c: &CConfig) -> *mut Unit {
     let config = config(c);
@@ -90,6 +90,25 @@ pub extern "C" fn rust_set_value(u: &mut Unit, calculation: u8, value: u32) -> u
 pub unsafe extern "C" fn rust_store_record(u: &mut Unit, file: u8, event: u8, given: *const u16, many: usize) -> u8 {
     let given = slice::from_raw_parts(given, many);
     independent::store(&u.config, &mut u.state, &u.params, file, event, given)
+}
+
+/// The same unit once more, its files with the same room, so that storing a record asks for memory where it did before.
+#[cfg(feature = "repeat")]
+#[no_mangle]
+pub extern "C" fn rust_copy(u: &Unit) -> *mut Unit {
+    let mut state = u.state.clone();
+    for (file, from) in state.files.iter_mut().zip(&u.state.files) {
+        file.reserve_exact(from.capacity() - from.len());
+    }
+    Box::into_raw(Box::new(Unit { config: u.config.clone(), state, params: u.params.clone() }))
+}
+
+/// # Safety
+/// The unit is the caller's, and this is its last use.
+#[cfg(feature = "repeat")]
+#[no_mangle]
+pub unsafe extern "C" fn rust_end(u: *mut Unit) {
+    drop(Box::from_raw(u));
 }
 
 /// The bytes of the configuration, and of the unit with all that it has on the heap.
