@@ -37,9 +37,9 @@ static int place(int input)
 static void fill(void)
 {
     for (int i = 0; i < OSTURDAM_INPUTS; i++)
-        if (u.config.inputs[i] && i >= 0x40 && i < 0x60)
+        if (osturdam_has_input(&u.config, i) && i >= 0x40 && i < 0x60)
             expect("pulses", pulses(&u, i, 1000 + i), OSTURDAM_DONE);
-        else if (u.config.inputs[i])
+        else if (osturdam_has_input(&u.config, i))
             expect("a word", set_word(&u, i, 257 * i + 3), OSTURDAM_DONE);
     for (int i = 0; i < 127; i++)
         expect("a value", set_value(&u, i, 0x01030507u * i), OSTURDAM_DONE);
@@ -48,14 +48,18 @@ static void fill(void)
 void equip(int points)
 {
     struct osturdam_config *c = &u.config;
-    c->unit = UNIT;
-    c->length = OSTURDAM_BLOCK;
+    memset(c, 0, sizeof *c);
+    osturdam_put_number(c, UNIT);
+    osturdam_put_length(c, OSTURDAM_BLOCK);
     for (int i = 0; i < OSTURDAM_INPUTS; i++)
-        c->inputs[i] = place(i) < points;
-    memset(c->outputs, 1, 16);
-    memset(c->calculations, 1, 127);
-    memset(c->files, 1, sizeof c->files);
-    memset(c->values, OSTURDAM_VALUES, sizeof c->values);
+        if (place(i) < points)
+            osturdam_equip_input(c, i);
+    for (int i = 0; i < 16; i++)
+        osturdam_equip_output(c, i);
+    for (int i = 0; i < 127; i++)
+        osturdam_equip_calculation(c, i);
+    for (int i = 0; i < OSTURDAM_FILES; i++)
+        osturdam_equip_file(c, i, OSTURDAM_VALUES);
     fresh(&u);
     fill();
 }

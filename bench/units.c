@@ -9,29 +9,37 @@
 
 #define COUNTED __attribute__((noinline))
 
+static struct osturdam_turned hear(struct units *u, const uint8_t *s, size_t n, uint8_t *buffer)
+{
+    struct osturdam_heard heard = { .chars = s, .count = n, .buffer = buffer, .room = OSTURDAM_REPLY };
+    struct osturdam_turned turned;
+    osturdam_hear(&u->lent, &heard, &turned);
+    return turned;
+}
+
 COUNTED struct osturdam_turned library_counted(struct units *u, const uint8_t *s, size_t n, uint8_t *buffer)
 {
-    return osturdam_unit_stretch(&u->config, &u->library, s, n, buffer, OSTURDAM_REPLY);
+    return hear(u, s, n, buffer);
 }
 
-COUNTED struct osturdam_turned plain_counted(struct units *u, const uint8_t *s, size_t n, uint8_t *buffer)
+COUNTED struct plain_turned plain_counted(struct units *u, const uint8_t *s, size_t n, uint8_t *buffer)
 {
-    return plain_stretch(&u->config, &u->plain, s, n, buffer, OSTURDAM_REPLY);
+    return plain_stretch(&u->plain_config, &u->plain, s, n, buffer, OSTURDAM_REPLY);
 }
 
-COUNTED struct osturdam_turned rust_counted(struct units *u, const uint8_t *s, size_t n, uint8_t *buffer)
+COUNTED struct plain_turned rust_counted(struct units *u, const uint8_t *s, size_t n, uint8_t *buffer)
 {
     return rust_stretch(u->rust, s, n, buffer, OSTURDAM_REPLY);
 }
 
 COUNTED uint8_t library_store(struct units *u, uint8_t file, uint8_t event, const uint16_t *given, size_t many)
 {
-    return osturdam_unit_store_record(&u->config, &u->library, file, event, given, many);
+    return osturdam_take_record(&u->lent, file, event, given, many);
 }
 
 COUNTED uint8_t plain_store(struct units *u, uint8_t file, uint8_t event, const uint16_t *given, size_t many)
 {
-    return plain_store_record(&u->config, &u->plain, file, event, given, many);
+    return plain_store_record(&u->plain_config, &u->plain, file, event, given, many);
 }
 
 COUNTED uint8_t rust_store(struct units *u, uint8_t file, uint8_t event, const uint16_t *given, size_t many)
@@ -55,21 +63,21 @@ static uint8_t agreed(const char *what, int library, int plain, int rust)
 static struct {
     uint32_t at;
     uint8_t was;
-} changes[sizeof(struct osturdam_unit)];
+} changes[sizeof(struct units)];
 static size_t many_changes;
 
-static void learn(const struct osturdam_unit *before, const struct osturdam_unit *after)
+static void learn(const void *before, const void *after, size_t many)
 {
-    const uint8_t *a = (const uint8_t *)before, *b = (const uint8_t *)after;
+    const uint8_t *a = before, *b = after;
     many_changes = 0;
-    for (size_t i = 0; i < sizeof *before; i++)
+    for (size_t i = 0; i < many; i++)
         if (a[i] != b[i]) {
             changes[many_changes].at = i;
             changes[many_changes++].was = a[i];
         }
 }
 
-static void put_back(struct osturdam_unit *unit)
+static void put_back(void *unit)
 {
     for (size_t i = 0; i < many_changes; i++)
         ((uint8_t *)unit)[changes[i].at] = changes[i].was;
@@ -83,10 +91,10 @@ static void take_again(struct units *u, const struct rust_unit *found)
 
 #define TELL_IN_C(unit, counted, ...)                                   \
     do {                                                                \
-        static struct osturdam_unit before;                             \
-        before = *(unit);                                               \
+        static uint8_t before[sizeof *(unit)];                          \
+        memcpy(before, unit, sizeof before);                            \
         counted(u, __VA_ARGS__);                                        \
-        learn(&before, unit);                                           \
+        learn(before, unit, sizeof before);                             \
         TELL_CYCLES(#counted, put_back(unit), counted(u, __VA_ARGS__)); \
         put_back(unit);                                                 \
     } while (0)
@@ -107,9 +115,19 @@ static void take_again(struct units *u, const struct rust_unit *found)
 
 void fresh(struct units *u)
 {
-    osturdam_unit_fresh(&u->config, &u->library);
+    const struct osturdam_config *c = &u->config;
+    struct plain_config *p = &u->plain_config;
+    u->lent = osturdam_lend(&u->library, c);
+    osturdam_begin(&u->lent, c);
+    p->number = osturdam_number_of(c);
+    p->length = osturdam_length_of(c);
+    memcpy(p->inputs, c->inputs, sizeof p->inputs);
+    memcpy(p->outputs, c->outputs, sizeof p->outputs);
+    memcpy(p->calculations, c->calculations, sizeof p->calculations);
+    memcpy(p->files, c->files, sizeof p->files);
+    memcpy(p->values, c->values, sizeof p->values);
     plain_fresh(&u->plain);
-    u->rust = rust_fresh(&u->config);
+    u->rust = rust_fresh(p);
 }
 
 size_t frame(uint8_t *to, unsigned master, unsigned unit, unsigned function, unsigned command, const void *data, size_t count)
@@ -131,7 +149,8 @@ size_t frame(uint8_t *to, unsigned master, unsigned unit, unsigned function, uns
 uint8_t stretch(struct units *u, const uint8_t *s, size_t n, int counted)
 {
     uint8_t a[OSTURDAM_REPLY], b[OSTURDAM_REPLY], c[OSTURDAM_REPLY];
-    struct osturdam_turned library, plain, rust;
+    struct osturdam_turned library;
+    struct plain_turned plain, rust;
     if (counted && cycles_asked())
         TELL_UNITS(counted, s, n, a);
     memset(a, 0xA5, sizeof a);
@@ -142,8 +161,8 @@ uint8_t stretch(struct units *u, const uint8_t *s, size_t n, int counted)
         plain = plain_counted(u, s, n, b);
         rust = rust_counted(u, s, n, c);
     } else {
-        library = osturdam_unit_stretch(&u->config, &u->library, s, n, a, sizeof a);
-        plain = plain_stretch(&u->config, &u->plain, s, n, b, sizeof b);
+        library = hear(u, s, n, a);
+        plain = plain_stretch(&u->plain_config, &u->plain, s, n, b, sizeof b);
         rust = rust_stretch(u->rust, s, n, c, sizeof c);
     }
     agreed("sent", library.sent, plain.sent, rust.sent);
@@ -160,31 +179,31 @@ uint8_t store_record(struct units *u, uint8_t file, uint8_t event, const uint16_
     if (counted)
         return agreed("store", library_store(u, file, event, given, many), plain_store(u, file, event, given, many),
                       rust_store(u, file, event, given, many));
-    return agreed("store", osturdam_unit_store_record(&u->config, &u->library, file, event, given, many),
-                  plain_store_record(&u->config, &u->plain, file, event, given, many),
+    return agreed("store", osturdam_take_record(&u->lent, file, event, given, many),
+                  plain_store_record(&u->plain_config, &u->plain, file, event, given, many),
                   rust_store_record(u->rust, file, event, given, many));
 }
 
 uint8_t elapsed(struct units *u, uint32_t ms)
 {
-    return agreed("elapsed", osturdam_unit_elapsed(&u->config, &u->library, ms), plain_elapsed(&u->config, &u->plain, ms),
+    return agreed("elapsed", osturdam_wait(&u->lent, ms), plain_elapsed(&u->plain_config, &u->plain, ms),
                   rust_elapsed(u->rust, ms));
 }
 
 uint8_t set_word(struct units *u, uint8_t input, uint16_t word)
 {
-    return agreed("word", osturdam_unit_set_word(&u->config, &u->library, input, word),
-                  plain_set_word(&u->config, &u->plain, input, word), rust_set_word(u->rust, input, word));
+    return agreed("word", osturdam_take_word(&u->lent, input, word),
+                  plain_set_word(&u->plain_config, &u->plain, input, word), rust_set_word(u->rust, input, word));
 }
 
 uint8_t pulses(struct units *u, uint8_t input, uint16_t count)
 {
-    return agreed("pulses", osturdam_unit_pulses(&u->config, &u->library, input, count),
-                  plain_pulses(&u->config, &u->plain, input, count), rust_pulses(u->rust, input, count));
+    return agreed("pulses", osturdam_take_pulses(&u->lent, input, count),
+                  plain_pulses(&u->plain_config, &u->plain, input, count), rust_pulses(u->rust, input, count));
 }
 
 uint8_t set_value(struct units *u, uint8_t calculation, uint32_t value)
 {
-    return agreed("value", osturdam_unit_set_value(&u->config, &u->library, calculation, value),
-                  plain_set_value(&u->config, &u->plain, calculation, value), rust_set_value(u->rust, calculation, value));
+    return agreed("value", osturdam_take_value(&u->lent, calculation, value),
+                  plain_set_value(&u->plain_config, &u->plain, calculation, value), rust_set_value(u->rust, calculation, value));
 }

@@ -6,8 +6,8 @@
 #include "functions/plain.h"
 
 struct rust_unit;
-struct rust_unit *rust_fresh(const struct osturdam_config *c);
-struct osturdam_turned rust_stretch(struct rust_unit *u, const uint8_t *stretch, size_t heard, uint8_t *buffer, size_t room);
+struct rust_unit *rust_fresh(const struct plain_config *c);
+struct plain_turned rust_stretch(struct rust_unit *u, const uint8_t *stretch, size_t heard, uint8_t *buffer, size_t room);
 uint8_t rust_elapsed(struct rust_unit *u, uint32_t ms);
 uint8_t rust_set_word(struct rust_unit *u, uint8_t input, uint16_t word);
 uint8_t rust_pulses(struct rust_unit *u, uint8_t input, uint16_t count);
@@ -19,7 +19,10 @@ size_t rust_bytes(const struct rust_unit *u, size_t *config);
 
 struct units {
     struct osturdam_config config;
-    struct osturdam_unit library, plain;
+    struct osturdam_together library;
+    struct osturdam_lent lent; // all of the library's
+    struct plain_config plain_config;
+    struct plain_unit plain;
     struct rust_unit *rust;
 };
 

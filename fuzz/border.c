@@ -49,46 +49,52 @@ static void fill(enum part part, unsigned seed)
         memcpy(lent[part].at + i, lent[part].at, length - i < own ? length - i : own);
 }
 
-/* A table in which as many of the numbers from `low` to `high` are equipped as the density says. */
-static void equip(enum part part, unsigned seed, unsigned density, unsigned low, unsigned high)
+/* A table of the configuration in which as many of the numbers from `low` to `high` are equipped as the density says. */
+static void equip(size_t table, unsigned seed, unsigned density, unsigned low, unsigned high)
 {
     for (unsigned n = low; n < high; n++)
-        lent[part].at[n] = mixed(seed + (unsigned)part, n) <= density ? 1 : 0;
+        lent[CONFIG].at[table - OSTURDAM_AT_NUMBER + n] = mixed(seed + (unsigned)table, n) <= density ? 1 : 0;
 }
 
 static void configure(unsigned seed, unsigned density)
 {
-    for (enum part part = INPUTS; part <= VALUES; part++)
-        memset(lent[part].at, 0, lent[part].length);
-    equip(INPUTS, seed, density, 0x00, 0x20);
-    equip(INPUTS, seed, density, 0x30, 0x60);
-    equip(INPUTS, seed, density, 0x80, 0x100);
-    equip(OUTPUTS, seed, density, 0, OSTURDAM_INPUTS);
-    equip(CALCULATIONS, seed, density, 0, OSTURDAM_CALCULATIONS);
-    equip(FILES, seed, density, 0, OSTURDAM_FILES);
+    memset(lent[CONFIG].at, 0, lent[CONFIG].length);
+    equip(OSTURDAM_AT_INPUTS, seed, density, 0x00, 0x20);
+    equip(OSTURDAM_AT_INPUTS, seed, density, 0x30, 0x60);
+    equip(OSTURDAM_AT_INPUTS, seed, density, 0x80, 0x100);
+    equip(OSTURDAM_AT_OUTPUTS, seed, density, 0, OSTURDAM_INPUTS);
+    equip(OSTURDAM_AT_CALCULATIONS, seed, density, 0, OSTURDAM_CALCULATIONS);
+    equip(OSTURDAM_AT_FILES, seed, density, 0, OSTURDAM_FILES);
     for (unsigned f = 0; f < OSTURDAM_FILES; f++)
-        lent[VALUES].at[f] = (uint8_t)(1 + mixed(seed, f) % OSTURDAM_VALUES);
+        lent[CONFIG].at[OSTURDAM_AT_VALUES - OSTURDAM_AT_NUMBER + f] = (uint8_t)(1 + mixed(seed, f) % OSTURDAM_VALUES);
 }
 
+/* The unit is fresh, or its memory is any with the layout's number and the configuration in it. */
 static void begin(struct call *c)
 {
     unsigned flags = next(1), density = next(1), unit = next(2), length = next(2), room = next(2), seed = next(4);
     bool any = (flags & ANY_CONFIG) != 0;
     c->nulls = (flags & NULLS) != 0;
-    c->unit = (uint16_t)(any ? unit : unit % LINE_BROADCAST);
-    c->length = any ? length : length % (OSTURDAM_BLOCK + 1);
-    lent_place(BLOCK, c->length <= lent_most(BLOCK) ? c->length : 0);
+    length = any ? length : length % (OSTURDAM_BLOCK + 1);
+    configure(seed, density);
+    if (any)
+        fill(CONFIG, seed);
+    osturdam_word_to(lent[CONFIG].at, (uint16_t)(any ? unit : unit % LINE_BROADCAST));
+    osturdam_word_to(lent[CONFIG].at + OSTURDAM_AT_LENGTH - OSTURDAM_AT_NUMBER, (uint16_t)length);
+    lent_place(BLOCK, length <= lent_most(BLOCK) ? length : 0);
+    lent_place(RECORDS, OSTURDAM_RECORDS);
     lent_place(BUFFER, room % (lent_most(BUFFER) + 1));
     lent_place(STRETCH, 0);
     lent_place(GIVEN, 0);
-    configure(seed, density);
-    for (enum part part = INPUTS; any && part <= VALUES; part++)
+    for (enum part part = UNIT; part < PARTS; part++)
         fill(part, seed);
-    for (enum part part = KEPT; part <= BUFFER; part++)
-        fill(part, seed);
-    if ((flags & ANY_STATE) == 0)
-        osturdam_fresh((struct osturdam_kept *)lent[KEPT].at, (uint16_t *)lent[WORDS].at, (uint32_t *)lent[RESULTS].at, lent[FIXED].at,
-                       lent[BLOCK].at, lent[BLOCK].length, lent[COUNTS].at);
+    c->kind = BEGIN;
+    if ((flags & ANY_STATE) == 0) {
+        call_checked(c);
+    } else {
+        osturdam_word_to(lent[UNIT].at + OSTURDAM_AT_LAYOUT, OSTURDAM_LAYOUT);
+        memcpy(lent[UNIT].at + OSTURDAM_AT_NUMBER, lent[CONFIG].at, OSTURDAM_CONFIG);
+    }
 }
 
 static void read_chars(uint8_t *place, size_t many)
@@ -106,7 +112,8 @@ static void read_frame(struct call *c)
     unsigned command = chosen < 0xF0 ? commands[chosen % COMMANDS][1] : next(1);
     if (chosen < 0xF0 && (function == 0x04 || function == 0x0A))
         command |= low & 0x1F;
-    unsigned unit = whom >> 5 == ALL ? LINE_BROADCAST : whom >> 5 == ANOTHER ? c->unit ^ 1u : c->unit;
+    unsigned own = osturdam_word_at(lent[UNIT].at + OSTURDAM_AT_NUMBER);
+    unsigned unit = whom >> 5 == ALL ? LINE_BROADCAST : whom >> 5 == ANOTHER ? own ^ 1u : own;
     read_chars(data, many);
     size_t length = line_frame(frame, unit & 0x7FF, whom & 0x1F, function, command, data, many);
     lent_place(STRETCH, length);
@@ -126,7 +133,7 @@ static void read_record(struct call *c)
 {
     c->number = (uint8_t)next(1);
     c->event = (uint8_t)next(1);
-    unsigned chosen = next(1), own = c->number < OSTURDAM_FILES ? lent[VALUES].at[c->number] : 0;
+    unsigned chosen = next(1), own = c->number < OSTURDAM_FILES ? lent[UNIT].at[OSTURDAM_AT_VALUES + c->number] : 0;
     size_t many = chosen < 0xC0 && own <= OSTURDAM_VALUES ? own : chosen % (lent_most(GIVEN) / sizeof(uint16_t) + 1);
     lent_place(GIVEN, many * sizeof(uint16_t));
     fill(GIVEN, chosen);
@@ -140,21 +147,39 @@ static void read_local(struct call *c, enum kind kind)
     c->value = next(kind == ELAPSE || kind == SET_VALUE ? 4 : 2);
 }
 
-/* One character or one kept number becomes any. */
-static void read_change(unsigned what)
+/* One character becomes any. */
+static void read_change(void)
 {
-    static const enum part of[] = { INPUTS, CALCULATIONS, FILES, VALUES, COUNTS, FIXED, AREA, BLOCK };
-    enum part part = what == 0 ? KEPT : of[next(1) % (sizeof of / sizeof of[0])];
-    size_t wide = what == 0 ? 2 : 1, places = lent[part].length / wide;
-    unsigned place = next(2), number = next((int)wide);
-    if (places > 0)
-        memcpy(lent[part].at + place % places * wide, &number, wide); /* little-endian, as the library's processor is */
+    static const struct {
+        enum part part;
+        size_t from, length; /* a length of 0: the whole part */
+    } of[] = {
+        { UNIT, OSTURDAM_AT_INPUTS, OSTURDAM_INPUTS },      { UNIT, OSTURDAM_AT_CALCULATIONS, OSTURDAM_INPUTS },
+        { UNIT, OSTURDAM_AT_FILES, OSTURDAM_FILES },        { UNIT, OSTURDAM_AT_VALUES, OSTURDAM_FILES },
+        { UNIT, OSTURDAM_AT_COUNTS, OSTURDAM_FILES },       { UNIT, OSTURDAM_AT_FIXED, OSTURDAM_FIXED },
+        { RECORDS, 0, 0 },                                  { BLOCK, 0, 0 },
+        { UNIT, 0, 0 },                                     { UNIT, OSTURDAM_AT_LAYOUT, OSTURDAM_AT_NUMBER - OSTURDAM_AT_LAYOUT },
+    };
+    size_t which = next(1) % (sizeof of / sizeof of[0]);
+    enum part part = of[which].part;
+    size_t length = of[which].length == 0 ? lent[part].length : of[which].length;
+    unsigned place = next(2), number = next(1);
+    if (length > 0)
+        lent[part].at[of[which].from + place % length] = (uint8_t)number;
 }
 
-/* Another room, or another length of what is lent as the parameter block. */
+/* One kept number becomes any. */
+static void read_number(void)
+{
+    unsigned which = next(2) % OSTURDAM_KEPT;
+    osturdam_word_to(lent[UNIT].at + OSTURDAM_AT_NUMBERS + 2 * which, (uint16_t)next(2));
+}
+
+/* Another room, or another length of what is lent as the parameter block or for records. */
 static void read_lengths(void)
 {
-    enum part part = next(1) % 4 == 0 ? BLOCK : BUFFER;
+    static const enum part of[] = { BLOCK, BUFFER, RECORDS, BUFFER };
+    enum part part = of[next(1) % (sizeof of / sizeof of[0])];
     lent_place(part, next(2) % (lent_most(part) + 1));
     fill(part, 0);
 }
@@ -171,8 +196,8 @@ static bool read_event(struct call *c)
     case 10: read_local(c, SET_VALUE); return true;
     case 11:
     case 12: read_record(c); return true;
-    case 13: read_change(0); return false;
-    case 14: read_change(1); return false;
+    case 13: read_number(); return false;
+    case 14: read_change(); return false;
     case 15: read_lengths(); return false;
     default: read_frame(c); return true;
     }
@@ -180,8 +205,8 @@ static bool read_event(struct call *c)
 
 int LLVMFuzzerTestOneInput(const uint8_t *data, size_t size)
 {
-    struct call c = { HEAR, 0, 0, false, 0, 0, 0 };
-    if (lent[KEPT].at == NULL)
+    struct call c = { BEGIN, false, 0, 0, 0 };
+    if (lent[UNIT].at == NULL)
         lent_begin();
     input = data;
     left = size;

@@ -10,14 +10,32 @@
 
 enum { SHORTEST_REPLY = 9 };
 
-/* What each kind of event may change, as bits of parts. */
-static const unsigned changes[] = {
-    [HEAR] = 1u << KEPT | 1u << WORDS | 1u << FIXED | 1u << BLOCK | 1u << AREA | 1u << COUNTS | 1u << BUFFER,
-    [ELAPSE] = 1u << KEPT,
-    [SET_WORD] = 1u << WORDS,
-    [PULSE] = 1u << WORDS,
-    [SET_VALUE] = 1u << RESULTS,
-    [STORE] = 1u << KEPT | 1u << AREA | 1u << COUNTS,
+/* The regions of a unit's memory, of which each kind of event may change some. */
+enum region { LAYOUT, CONFIGURATION, NUMBERS, WORDS, RESULTS, FIXED, COUNTS, REGIONS };
+static const struct {
+    const char *name;
+    size_t from, to;
+} regions[REGIONS] = {
+    [LAYOUT] = { "number of the layout", OSTURDAM_AT_LAYOUT, OSTURDAM_AT_NUMBER },
+    [CONFIGURATION] = { "configuration in the unit", OSTURDAM_AT_NUMBER, OSTURDAM_AT_NUMBERS },
+    [NUMBERS] = { "kept numbers", OSTURDAM_AT_NUMBERS, OSTURDAM_AT_WORDS },
+    [WORDS] = { "words", OSTURDAM_AT_WORDS, OSTURDAM_AT_RESULTS },
+    [RESULTS] = { "results", OSTURDAM_AT_RESULTS, OSTURDAM_AT_FIXED },
+    [FIXED] = { "fixed", OSTURDAM_AT_FIXED, OSTURDAM_AT_COUNTS },
+    [COUNTS] = { "counts", OSTURDAM_AT_COUNTS, OSTURDAM_UNIT },
+};
+
+/* What each kind of event may change, as bits of parts and of regions. */
+static const struct {
+    unsigned parts, regions;
+} changes[] = {
+    [BEGIN] = { 1u << BLOCK, (1u << REGIONS) - 1 },
+    [HEAR] = { 1u << BLOCK | 1u << RECORDS | 1u << BUFFER, 1u << NUMBERS | 1u << WORDS | 1u << FIXED | 1u << COUNTS },
+    [ELAPSE] = { 0, 1u << NUMBERS },
+    [SET_WORD] = { 0, 1u << WORDS },
+    [PULSE] = { 0, 1u << WORDS },
+    [SET_VALUE] = { 0, 1u << RESULTS },
+    [STORE] = { 1u << RECORDS, 1u << NUMBERS | 1u << COUNTS },
 };
 
 static struct picture *before, *after;
@@ -50,62 +68,109 @@ static uint8_t *place(const struct call *c, enum part part)
     return c->nulls && lent[part].length == 0 ? NULL : lent[part].at;
 }
 
-/* The configuration's parts, then kept numbers: how each call of the library begins. */
-#define CONFIGURATION c->unit, c->length, lent[INPUTS].at, lent[OUTPUTS].at, lent[CALCULATIONS].at, lent[FILES].at, lent[VALUES].at, kept
-#define PARAMETERS place(c, BLOCK), lent[BLOCK].length
+/* How a call ended; but for a stretch it is the outcome alone. */
+struct answer {
+    uint8_t outcome;
+    uint16_t sent;
+    uint8_t action, output;
+};
 
-static struct osturdam_turned heard(const struct call *c, struct osturdam_kept *kept)
+/* How each call of the library begins: unit, parameter block. */
+#define OWN lent[UNIT].at, place(c, BLOCK), lent[BLOCK].length
+#define LENT OWN, place(c, RECORDS), lent[RECORDS].length
+
+static struct answer heard(const struct call *c)
 {
-    return osturdam_stretch(CONFIGURATION, (uint16_t *)lent[WORDS].at, (const uint32_t *)lent[RESULTS].at, lent[FIXED].at, PARAMETERS,
-                            lent[AREA].at, lent[COUNTS].at, place(c, BUFFER), lent[BUFFER].length, place(c, STRETCH),
-                            lent[STRETCH].length);
+    const uint8_t *turned = lent[TURNED].at;
+    struct answer a = { 0, 0, 0, 0 };
+    a.outcome = osturdam_stretch(LENT, place(c, BUFFER), lent[BUFFER].length, place(c, STRETCH), lent[STRETCH].length, lent[TURNED].at);
+    a.sent = osturdam_word_at(turned);
+    a.action = turned[2];
+    a.output = turned[3];
+    return a;
 }
 
-static struct osturdam_turned local(const struct call *c, struct osturdam_kept *kept)
+static uint8_t local(const struct call *c)
 {
-    struct osturdam_turned t = { 0, 0, 0, 0 };
-    uint16_t *words = (uint16_t *)lent[WORDS].at;
-    if (c->kind == ELAPSE)
-        t.outcome = osturdam_elapsed(CONFIGURATION, PARAMETERS, lent[COUNTS].at, c->value);
-    if (c->kind == SET_WORD)
-        t.outcome = osturdam_set_word(CONFIGURATION, words, PARAMETERS, lent[COUNTS].at, c->number, (uint16_t)c->value);
-    if (c->kind == PULSE)
-        t.outcome = osturdam_pulses(CONFIGURATION, words, PARAMETERS, lent[COUNTS].at, c->number, (uint16_t)c->value);
-    if (c->kind == SET_VALUE)
-        t.outcome = osturdam_set_value(CONFIGURATION, (uint32_t *)lent[RESULTS].at, PARAMETERS, lent[COUNTS].at, c->number, c->value);
-    if (c->kind == STORE)
-        t.outcome = osturdam_store_record(CONFIGURATION, PARAMETERS, lent[AREA].at, lent[COUNTS].at, c->number, c->event,
-                                          (const uint16_t *)place(c, GIVEN), lent[GIVEN].length / sizeof(uint16_t));
-    return t;
+    switch (c->kind) {
+    case ELAPSE: return osturdam_elapsed(LENT, c->value);
+    case SET_WORD: return osturdam_set_word(LENT, c->number, (uint16_t)c->value);
+    case PULSE: return osturdam_pulses(LENT, c->number, (uint16_t)c->value);
+    case SET_VALUE: return osturdam_set_value(LENT, c->number, c->value);
+    case STORE:
+        return osturdam_store_record(LENT, c->number, c->event, (const uint16_t *)place(c, GIVEN), lent[GIVEN].length / sizeof(uint16_t));
+    default: osturdam_fresh(OWN, lent[CONFIG].at); return OSTURDAM_DONE;
+    }
 }
 
-static struct osturdam_turned made(const struct call *c)
+static struct answer made(const struct call *c)
 {
-    struct osturdam_kept *kept = (struct osturdam_kept *)lent[KEPT].at;
-    return c->kind == HEAR ? heard(c, kept) : local(c, kept);
+    struct answer a = { 0, 0, 0, 0 };
+    if (c->kind == HEAR)
+        return heard(c);
+    a.outcome = local(c);
+    return a;
 }
 
-static bool fits(const struct call *c, const struct picture *p)
+static struct osturdam_unit unit_in(const struct picture *p)
 {
-    struct judged j = { .unit = c->unit, .length = c->length, .lent = lent[BLOCK].length, .inputs = picture_part(p, INPUTS),
-                        .outputs = picture_part(p, OUTPUTS), .calculations = picture_part(p, CALCULATIONS),
-                        .files = picture_part(p, FILES), .values = picture_part(p, VALUES), .counts = picture_part(p, COUNTS) };
-    memcpy(&j.kept, picture_part(p, KEPT), sizeof j.kept);
-    return judge(&j);
+    struct osturdam_unit u;
+    memcpy(&u, picture_part(p, UNIT), OSTURDAM_UNIT);
+    return u;
+}
+
+static bool fits(const struct picture *p)
+{
+    struct osturdam_unit u = unit_in(p);
+    return judge(&u, lent[BLOCK].length, lent[RECORDS].length);
+}
+
+/* The part is as it was, from one character on and up to another. */
+static bool as_before(enum part part, size_t from, size_t to)
+{
+    return memcmp(picture_part(before, part) + from, lent[part].at + from, to - from) == 0;
 }
 
 /* What a turned away call leaves, and what any call leaves. */
 static void check_memory(const struct call *c, bool away)
 {
-    unsigned may = away ? 0 : changes[c->kind];
+    unsigned may = away ? 0 : changes[c->kind].parts, within = away ? 0 : changes[c->kind].regions;
     enum part part = lent_overwritten();
     hold(part == PARTS, c, "something was written before", part == PARTS ? "" : lent_name(part));
     for (part = 0; part < PARTS; part++)
-        if ((may >> part & 1) == 0)
-            hold(memcmp(picture_part(before, part), lent[part].at, lent[part].length) == 0, c, "changed:", lent_name(part));
+        if (part != UNIT && part != TURNED && (may >> part & 1) == 0)
+            hold(as_before(part, 0, lent[part].length), c, "changed:", lent_name(part));
+    for (enum region r = 0; r < REGIONS; r++)
+        if ((within >> r & 1) == 0)
+            hold(as_before(UNIT, regions[r].from, regions[r].to), c, "changed:", regions[r].name);
+    if (lent[RECORDS].length > OSTURDAM_RECORDS)
+        hold(as_before(RECORDS, OSTURDAM_RECORDS, lent[RECORDS].length), c, "changed behind the", "records");
 }
 
-static void check_reply(const struct call *c, const struct osturdam_turned *t)
+static bool zeros(const uint8_t *chars, size_t many)
+{
+    size_t i = 0;
+    while (i < many && chars[i] == 0)
+        i++;
+    return i == many;
+}
+
+static void check_fresh(const struct call *c)
+{
+    struct osturdam_unit u = unit_in(after);
+    hold(osturdam_word_at(u.layout) == OSTURDAM_LAYOUT, c, "another layout was laid", "");
+    hold(memcmp(&u.config, lent[CONFIG].at, OSTURDAM_CONFIG) == 0, c, "another configuration was laid", "");
+    hold(zeros(lent[UNIT].at + OSTURDAM_AT_WORDS, OSTURDAM_UNIT - OSTURDAM_AT_WORDS), c, "left in a fresh", "unit");
+    hold(zeros(lent[BLOCK].at, lent[BLOCK].length), c, "left in a fresh", "block");
+    for (int which = 0; which < OSTURDAM_KEPT; which++) {
+        uint16_t wanted = which == OSTURDAM_DAY || which == OSTURDAM_STATUS_CONFIGURE ? 1 : 0;
+        hold(osturdam_kept_of(&u, (enum osturdam_kept)which) == wanted, c, "left in the fresh", "numbers");
+    }
+    bool valid = judge(&u, osturdam_length_of(&u.config), OSTURDAM_RECORDS);
+    hold(osturdam_valid(lent[CONFIG].at) == (valid ? 1 : 0), c, valid ? "a configuration in range is not valid" : "one out of range is valid", "");
+}
+
+static void check_reply(const struct call *c, const struct answer *t)
 {
     static const unsigned unanswered = 1u << OSTURDAM_NOT_WHOLE | 1u << OSTURDAM_CHECK_WRONG | 1u << OSTURDAM_OTHER_UNIT
         | 1u << OSTURDAM_BROADCAST_DONE | 1u << OSTURDAM_WRITE_TAKEN | 1u << OSTURDAM_BROADCAST_REFUSED | 1u << OSTURDAM_NOT_CONFIGURED
@@ -116,28 +181,35 @@ static void check_reply(const struct call *c, const struct osturdam_turned *t)
     hold((sent == 0) == ((unanswered >> t->outcome & 1) == 1), c, "answered, or not, against the outcome", "");
     hold(sent == 0 || (sent >= SHORTEST_REPLY && sent <= OSTURDAM_REPLY), c, "no length of a reply", "");
     hold(line_check(lent[BUFFER].at, sent) == 0, c, "the reply's check is wrong", "");
-    hold(memcmp(picture_part(before, BUFFER) + sent, lent[BUFFER].at + sent, room - sent) == 0, c, "written behind the reply", "");
+    hold(as_before(BUFFER, sent, room), c, "written behind the reply", "");
     hold(t->action <= OSTURDAM_CLOSE, c, "no such action", "");
     hold(t->action != OSTURDAM_REST || t->output == 0, c, "an output without an action", "");
-    hold(t->action == OSTURDAM_REST || (t->outcome == OSTURDAM_DONE && lent[OUTPUTS].at[t->output] != 0), c, "no such operation", "");
+    bool equipped = lent[UNIT].at[OSTURDAM_AT_OUTPUTS + t->output] != 0;
+    hold(t->action == OSTURDAM_REST || (t->outcome == OSTURDAM_DONE && equipped), c, "no such operation", "");
 }
 
-static void check_answer(const struct call *c, const struct osturdam_turned *t)
+static void check_local(const struct call *c, uint8_t outcome)
 {
-    bool fit = fits(c, before), refused = t->outcome == OSTURDAM_NOT_CONFIGURED;
+    if (c->kind == STORE)
+        hold(outcome <= OSTURDAM_WRONG_VALUES, c, "no such answer", "");
+    else
+        hold(outcome == OSTURDAM_DONE || (outcome == OSTURDAM_NOT_VALID && c->kind != ELAPSE), c, "no such answer", "");
+}
+
+static void check_answer(const struct call *c, const struct answer *t)
+{
+    bool fit = fits(before), refused = t->outcome == OSTURDAM_NOT_CONFIGURED;
     bool is_short = c->kind == HEAR && lent[BUFFER].length < OSTURDAM_REPLY;
     hold(is_short || refused == !fit, c, fit ? "a unit in range was refused" : "a unit out of range was taken", "");
     check_memory(c, refused || is_short);
     if (c->kind == HEAR)
         check_reply(c, t);
-    if (c->kind == STORE)
-        hold(refused || t->outcome <= OSTURDAM_WRONG_VALUES, c, "no such answer", "");
-    if (c->kind != HEAR && c->kind != STORE)
-        hold(refused || t->outcome == OSTURDAM_DONE || (t->outcome == OSTURDAM_NOT_VALID && c->kind != ELAPSE), c, "no such answer", "");
-    hold(!fit || fits(c, after), c, "a unit in range was left out of it", "");
+    else if (!refused)
+        check_local(c, t->outcome);
+    hold(!fit || fits(after), c, "a unit in range was left out of it", "");
 }
 
-static bool same(const struct osturdam_turned *a, const struct osturdam_turned *b)
+static bool same(const struct answer *a, const struct answer *b)
 {
     return a->sent == b->sent && a->outcome == b->outcome && a->action == b->action && a->output == b->output;
 }
@@ -149,11 +221,16 @@ void call_checked(const struct call *c)
         after = picture_new();
     }
     picture_take(before);
-    struct osturdam_turned first = made(c);
+    struct answer first = made(c);
     picture_take(after);
-    check_answer(c, &first);
+    if (c->kind == BEGIN) {
+        check_memory(c, false);
+        check_fresh(c);
+    } else {
+        check_answer(c, &first);
+    }
     picture_restore(before);
-    struct osturdam_turned again = made(c);
+    struct answer again = made(c);
     enum part part = picture_differs(after);
     hold(same(&first, &again), c, "another answer the second time", "");
     hold(part == PARTS, c, "another memory the second time:", part == PARTS ? "" : lent_name(part));

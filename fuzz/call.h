@@ -6,12 +6,12 @@
 #include <stddef.h>
 #include <stdint.h>
 
-enum kind { HEAR, ELAPSE, SET_WORD, PULSE, SET_VALUE, STORE };
+enum kind { BEGIN, HEAR, ELAPSE, SET_WORD, PULSE, SET_VALUE, STORE };
+
+enum { CALL_TURNED = 4 }; /* characters in which a stretch is answered */
 
 struct call {
     enum kind kind;
-    uint16_t unit;
-    size_t length;
     bool nulls;      /* parts of no length are lent as null */
     uint8_t number;  /* of an input, calculation or file */
     uint8_t event;

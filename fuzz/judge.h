@@ -6,14 +6,7 @@
 
 #include <stdbool.h>
 
-/* A configuration, and the kept numbers and counts that go with it. */
-struct judged {
-    uint16_t unit;
-    size_t length, lent;
-    const uint8_t *inputs, *outputs, *calculations, *files, *values, *counts;
-    struct osturdam_kept kept;
-};
-
-bool judge(const struct judged *j);
+/* Of a unit that is lent a parameter block of this length and this room for records. */
+bool judge(const struct osturdam_unit *u, uint64_t length, uint64_t room);
 
 #endif

@@ -1,6 +1,7 @@
 #define _GNU_SOURCE
 #include "lent.h"
 
+#include "call.h"
 #include "osturdam.h"
 
 #include <stdio.h>
@@ -9,34 +10,27 @@
 #include <sys/mman.h>
 #include <unistd.h>
 
-enum { PAINT = 0xA5, PAINTED = 64, MOST_BLOCK = 600, MOST_BUFFER = 1100, MOST_STRETCH = 700, MOST_GIVEN = 80 };
+enum { PAINT = 0xA5, PAINTED = 64, MOST_BLOCK = 600, MOST_RECORDS = OSTURDAM_RECORDS + 100, MOST_BUFFER = 1100, MOST_STRETCH = 700, MOST_GIVEN = 80 };
 
 static const struct {
     const char *name;
     size_t most;
 } known[PARTS] = {
-    [INPUTS] = { "inputs", OSTURDAM_INPUTS },
-    [OUTPUTS] = { "outputs", OSTURDAM_INPUTS },
-    [CALCULATIONS] = { "calculations", OSTURDAM_INPUTS },
-    [FILES] = { "files", OSTURDAM_FILES },
-    [VALUES] = { "values", OSTURDAM_FILES },
-    [KEPT] = { "kept", sizeof(struct osturdam_kept) },
-    [WORDS] = { "words", OSTURDAM_INPUTS * sizeof(uint16_t) },
-    [RESULTS] = { "results", OSTURDAM_CALCULATIONS * sizeof(uint32_t) },
-    [FIXED] = { "fixed", OSTURDAM_FIXED },
+    [CONFIG] = { "configuration", OSTURDAM_CONFIG },
+    [UNIT] = { "unit", OSTURDAM_UNIT },
     [BLOCK] = { "block", MOST_BLOCK },
-    [AREA] = { "area", OSTURDAM_AREA },
-    [COUNTS] = { "counts", OSTURDAM_FILES },
+    [RECORDS] = { "records", MOST_RECORDS },
     [BUFFER] = { "buffer", MOST_BUFFER },
     [STRETCH] = { "stretch", MOST_STRETCH },
     [GIVEN] = { "given", MOST_GIVEN },
+    [TURNED] = { "turned", CALL_TURNED },
 };
 
 struct part_lent lent[PARTS];
 static uint8_t *ends[PARTS];
 
 struct picture {
-    uint8_t chars[PARTS][OSTURDAM_AREA];
+    uint8_t chars[PARTS][MOST_RECORDS];
 };
 
 static void fence(enum part part)

@@ -6,7 +6,7 @@
 #include <stddef.h>
 #include <stdint.h>
 
-enum part { INPUTS, OUTPUTS, CALCULATIONS, FILES, VALUES, KEPT, WORDS, RESULTS, FIXED, BLOCK, AREA, COUNTS, BUFFER, STRETCH, GIVEN, PARTS };
+enum part { CONFIG, UNIT, BLOCK, RECORDS, BUFFER, STRETCH, GIVEN, TURNED, PARTS };
 
 struct part_lent {
     uint8_t *at;

@@ -4,29 +4,34 @@
 #include <stdbool.h>
 
 #define PARAMETERS                                                                                                                    \
-    uint16_t unit, size_t length, const uint8_t *inputs, const uint8_t *outputs, const uint8_t *calculations, const uint8_t *files,   \
-        const uint8_t *values, struct osturdam_kept *kept, uint16_t *words, const uint32_t *results, uint8_t *fixed, uint8_t *block,  \
-        size_t lent, uint8_t *area, uint8_t *counts, uint8_t *buffer, size_t room, const uint8_t *stretch, size_t heard
+    uint8_t *unit, uint8_t *block, uint64_t length, uint8_t *records, uint64_t room, uint8_t *buffer, uint64_t buffer_room,           \
+        const uint8_t *chars, uint64_t count, uint8_t *turned
 
-struct osturdam_turned __real_osturdam_stretch(PARAMETERS);
-struct osturdam_turned __wrap_osturdam_stretch(PARAMETERS);
+uint8_t __real_osturdam_stretch(PARAMETERS);
+uint8_t __wrap_osturdam_stretch(PARAMETERS);
 
-struct osturdam_turned __wrap_osturdam_stretch(PARAMETERS)
+uint8_t __wrap_osturdam_stretch(PARAMETERS)
 {
     static unsigned calls;
-    struct osturdam_turned turned = __real_osturdam_stretch(unit, length, inputs, outputs, calculations, files, values, kept, words,
-                                                            results, fixed, block, lent, area, counts, buffer, room, stretch, heard);
-    bool answered = turned.sent > 0, done = turned.outcome == OSTURDAM_DONE, refused = turned.outcome == OSTURDAM_NOT_CONFIGURED;
+    uint8_t outcome = __real_osturdam_stretch(unit, block, length, records, room, buffer, buffer_room, chars, count, turned);
+    uint16_t sent = osturdam_word_at(turned);
+    bool answered = sent > 0, done = outcome == OSTURDAM_DONE, refused = outcome == OSTURDAM_NOT_CONFIGURED;
+    bool other = osturdam_word_at(unit + OSTURDAM_AT_LAYOUT) != OSTURDAM_LAYOUT;
     calls++;
     switch (PLANTED) {
-    case 1: if (answered) buffer[room] = 0; break;                                    /* written past the buffer */
-    case 2: if (answered && turned.sent < room) buffer[turned.sent] ^= 1; break;      /* written behind the reply */
-    case 3: if (refused) words[0] ^= 1; break;                                        /* changed by a refusal */
-    case 4: if (done) turned.sent += 0 * ((const volatile uint8_t *)stretch)[heard]; break; /* read past the stretch */
-    case 5: if (done) kept->silence = calls & 1; break;                               /* kept from call to call */
-    case 6: if (done) counts[-1] = 0; break;                                          /* written before the counts */
-    case 7: if (refused) turned.outcome = OSTURDAM_NOT_WHOLE; break;                  /* a unit out of range is served */
-    case 8: if (room < OSTURDAM_REPLY) turned.outcome = OSTURDAM_NOT_WHOLE; break;    /* a short buffer is served */
+    case 1: if (answered) buffer[buffer_room] = 0; break;                             /* written past the buffer */
+    case 2: if (answered && sent < buffer_room) buffer[sent] ^= 1; break;             /* written behind the reply */
+    case 3: if (refused) unit[OSTURDAM_AT_WORDS] ^= 1; break;                         /* changed by a refusal */
+    case 4: if (done) turned[0] ^= 0 * ((const volatile uint8_t *)chars)[count]; break; /* read past the stretch */
+    case 5: if (done) unit[OSTURDAM_AT_NUMBERS + 2 * OSTURDAM_SILENCE] = calls & 1; break; /* kept from call to call */
+    case 6: if (done) unit[-1] = 0; break;                                            /* written before the unit */
+    case 7: if (refused) outcome = OSTURDAM_NOT_WHOLE; break;                         /* a unit out of range is served */
+    case 8: if (buffer_room < OSTURDAM_REPLY) outcome = OSTURDAM_NOT_WHOLE; break;    /* a short buffer is served */
+    case 9: if (done) unit[OSTURDAM_AT_OUTPUTS] ^= 2; break;                          /* the configuration changed by an event */
+    case 10: if (done && room > OSTURDAM_RECORDS) records[OSTURDAM_RECORDS] ^= 1; break; /* written behind the records */
+    case 11: if (done) unit[OSTURDAM_UNIT] = 0; break;                                /* written past the unit */
+    case 12: if (refused && room < OSTURDAM_RECORDS) outcome = OSTURDAM_NOT_WHOLE; break; /* served with too few records */
+    case 13: if (refused && other) outcome = OSTURDAM_NOT_WHOLE; break;               /* a memory of another layout is served */
     }
-    return turned;
+    return outcome;
 }

@@ -5,15 +5,21 @@ An input is a head (flags, density of equipment, unit, length of the parameter b
 events, each a character for its kind and what that kind reads. fuzz/border.c reads them.
 """
 import os
+import re
 import struct
 
+FOLDER = os.path.dirname(os.path.abspath(__file__))
+with open(os.path.join(FOLDER, '../include/osturdam.h'), encoding='utf-8') as header:
+    NUMBERS = {name: int(number) for name, number in re.findall(r'^    OSTURDAM_(\w+) = (\d+)\b', header.read(), re.M)}
+BLOCK, REPLY, RECORDS, ROOM = (NUMBERS[name] for name in ('BLOCK', 'REPLY', 'RECORDS', 'ROOM'))
+FRAME, VALUES, HOLD, SILENT, LAYOUT = (NUMBERS[name] for name in ('FRAME', 'VALUES', 'HOLD_MS', 'SILENT_MS', 'LAYOUT'))
 ANY_CONFIG, ANY_STATE, NULLS = 1, 2, 4
 OWN, ALL, ANOTHER = 0, 1, 2
 COMMANDS = [(0x00, 0x41), (0x00, 0x4D), (0x03, 0x00), (0x03, 0x80), (0x04, 0x00), (0x04, 0x20), (0x04, 0x40), (0x04, 0x60), (0x0A, 0x40), (0x10, 0x10),
             (0x10, 0x11), (0x10, 0x20), (0x10, 0x21), (0x20, 0x00), (0x20, 0x11), (0x20, 0x30), (0x20, 0x31), (0x20, 0x38), (0x28, 0x30), (0x28, 0x31)]
 
 
-def head(flags=0, density=255, unit=1234, length=512, room=520, seed=1):
+def head(flags=0, density=255, unit=1234, length=BLOCK, room=REPLY, seed=1):
     return struct.pack('<BBHHHI', flags, density, unit, length, room, seed)
 
 
@@ -48,8 +54,8 @@ def record(file, event=7, many=0):
     return bytes([11, file, event, many])
 
 
-def kept(place, number):
-    return struct.pack('<BHH', 13, place, number)
+def kept(name, number):
+    return struct.pack('<BHH', 13, NUMBERS[name], number)
 
 
 def changed(part, place, char):
@@ -64,6 +70,10 @@ def block(length):
     return struct.pack('<BBH', 15, 0, length)
 
 
+def records(length):
+    return struct.pack('<BBH', 15, 2, length)
+
+
 def write(ordinal, bias, data, master=1):
     return frame(0x20, 0x30, struct.pack('<HB', bias, ordinal), master) + frame(0x20, 0x31, data, master)
 
@@ -75,44 +85,50 @@ INPUTS = {
     'sparse': head(density=60) + word(0x30, 1) + SCAN + frame(0x03, 0x80) + frame(0x20, 0x11, b'\x41'),
     'values': head(density=200) + value(5, 0x7FC00001) + frame(0x03, 0x80) + frame(0x03, 0x00, bytes(range(100))) + frame(0x03, 0x00, bytes(103)),
     'too-long': head() + frame(0x03, 0x80) + frame(0x03, 0x00, bytes(128)),
-    'operate': head() + frame(0x10, 0x11, b'\x40') + elapsed(5000) + frame(0x10, 0x20) + frame(0x10, 0x10, b'\x40') + frame(0x10, 0x20),
-    'late': head() + frame(0x10, 0x10, b'\x40') + elapsed(5001) + frame(0x10, 0x20) + frame(0x10, 0x20),
+    'operate': head() + frame(0x10, 0x11, b'\x40') + elapsed(HOLD) + frame(0x10, 0x20) + frame(0x10, 0x10, b'\x40') + frame(0x10, 0x20),
+    'late': head() + frame(0x10, 0x10, b'\x40') + elapsed(HOLD + 1) + frame(0x10, 0x20) + frame(0x10, 0x20),
     'broken-off': head() + frame(0x10, 0x10, b'\x40') + frame(0x10, 0x10, b'\x40', master=2) + frame(0x10, 0x21, master=2) + SCAN,
     'blocks': head() + write(3, 250, b'abcdef') + write(3, 250, b'abcdefg') + write(6, 384, bytes(128)) + frame(0x28, 0x30, b'\x01\x01\x06\xff'),
-    'write-held': head() + frame(0x20, 0x30, b'\0\0\6') + frame(0x20, 0x30, b'\0\0\6', master=2) + frame(0x20, 0x31, b'x', master=2) + elapsed(5001),
+    'write-held': head() + frame(0x20, 0x30, b'\0\0\6') + frame(0x20, 0x30, b'\0\0\6', master=2) + frame(0x20, 0x31, b'x', master=2) + elapsed(HOLD + 1),
     'tables': head() + write(11, 0, b'\x12\x02\x30\x40' + b'\x00\x03\x80\x81\x82') + b''.join(frame(0x0A, 0x40, low=n) for n in range(1, 5)),
     'table-end': head() + write(11, 128, bytes([0x11, 126]) + bytes(126)) + write(11, 0, bytes([0x33, 126]) + bytes(126)) + frame(0x0A, 0x40, low=2),
     'clock': head() + frame(0x20, 0x38, b'\x03\x66\x23\x59\x59\x03\xe7') + elapsed(1) + frame(0x28, 0x31) + frame(0x20, 0x38, b'\x03\x67\0\0\0\0\0'),
     'year': head() + elapsed(2**32 - 1) * 9 + frame(0x28, 0x31),
-    'silence': head() + elapsed(59999) + elapsed(1) + SCAN + SCAN + stretch(b'') + elapsed(60000) + stretch(b'noise') + SCAN,
+    'silence': head() + elapsed(SILENT - 1) + elapsed(1) + SCAN + SCAN + stretch(b'') + elapsed(SILENT) + stretch(b'noise') + SCAN,
     'restart': head() + frame(0x20, 0x30, b'\0\0\6') + record(0) + NEXT + frame(0x20, 0x00) + NEXT,
     'broadcast': head() + frame(0x20, 0x11, b'\x40', to=ALL) + frame(0x20, 0x38, bytes([0, 1, 0, 0, 0, 0, 0]), to=ALL) + frame(0x20, 0x00, to=ALL) + SCAN,
     'another': head() + frame(0x00, 0x41, to=ANOTHER) + SCAN,
     'history': head() + record(0) * 3 + DUMP + frame(0x04, 0x20) + record(0) + frame(0x04, 0x20) + DUMP + DUMP,
     'two-masters': head() + record(0) + NEXT + frame(0x04, 0x40, master=2) + NEXT + NEXT,
-    'full': head() + record(3) * 34 + frame(0x04, 0x60, low=3) * 4 + record(3),
+    'full': head() + record(3) * (ROOM + 2) + frame(0x04, 0x60, low=3) * 4 + record(3),
     'files': head() + record(31) + record(32) + record(1, many=0xFF) + frame(0x04, 0x40, low=31) + frame(0x04, 0x40, low=1) + frame(0x04, 0x00, low=31),
     'unknown': head() + frame(0xFF, 0xFF, b'xyz') + frame(0x00, 0xFF) + frame(0x0A, 0x10) + frame(0x03, 0x81),
     'damage': head() + stretch(bytes.fromhex('D20C004100005367')) + SCAN + frame(0x00, 0x41, b'x') + frame(0x28, 0x30, bytes(128)),
-    'longest': head() + frame(0x20, 0x31, bytes(128)) + frame(0x20, 0x31, bytes(129)) + stretch(bytes(136)) + stretch(bytes(700)),
-    'rooms': head(room=519) + SCAN + room(520) + SCAN + room(0) + SCAN + room(1100) + SCAN,
-    'nulls': head(NULLS, length=0, room=0) + stretch(b'') + room(520) + stretch(b'') + frame(0x28, 0x30, b'\0\0\6\0') + elapsed(0),
-    'block-other': head() + block(511) + SCAN + block(513) + elapsed(1) + block(512) + SCAN,
-    'kept-select': head() + kept(5, 1) + kept(6, 31) + kept(9, 5000) + frame(0x10, 0x20, master=31) + kept(9, 5001) + kept(5, 1) + SCAN,
-    'kept-memory': head() + record(0) * 2 + kept(18, 1) + kept(22, 1) + kept(23, 1) + frame(0x04, 0x00, master=0) + kept(22, 2) + DUMP,
-    'kept-marks': head() + kept(25, 2) + SCAN + kept(25, 3) + SCAN + kept(25, 0) + kept(24, 60001) + elapsed(1) + kept(24, 60000) + elapsed(0),
-    'kept-clock': head() + kept(0, 366) + SCAN + kept(0, 367) + SCAN + kept(0, 0) + record(0) + kept(0, 65535) + elapsed(9),
-    'counts': head() + changed(4, 0, 32) + DUMP + DUMP + changed(4, 0, 33) + SCAN + changed(4, 0, 255) + DUMP,
-    'equipment': head() + changed(0, 0x20, 1) + SCAN + changed(0, 0x20, 0) + changed(1, 0x80, 1) + SCAN + changed(1, 0x80, 0) + changed(3, 0, 17) + record(0),
+    'longest': head() + frame(0x20, 0x31, bytes(FRAME - 8)) + frame(0x20, 0x31, bytes(FRAME - 7)) + stretch(bytes(FRAME)) + stretch(bytes(700)),
+    'rooms': head(room=REPLY - 1) + SCAN + room(REPLY) + SCAN + room(0) + SCAN + room(1100) + SCAN,
+    'nulls': head(NULLS, length=0, room=0) + stretch(b'') + room(REPLY) + stretch(b'') + frame(0x28, 0x30, b'\0\0\6\0') + elapsed(0),
+    'block-other': head() + block(BLOCK - 1) + SCAN + block(BLOCK + 1) + elapsed(1) + block(BLOCK) + SCAN,
+    'records': head() + records(RECORDS) + record(0) + SCAN + records(RECORDS + 1) + DUMP + SCAN + records(RECORDS - 1) + SCAN + record(0) + elapsed(1),
+    'records-none': head(NULLS) + records(0) + SCAN + record(0) + word(0x30, 1) + pulses(0x40, 1) + value(0, 1) + elapsed(1),
+    'kept-select': head() + kept('SELECT', 1) + kept('SELECT_MASTER', 31) + kept('SELECT_AGE', HOLD) + frame(0x10, 0x20, master=31)
+                   + kept('SELECT_AGE', HOLD + 1) + kept('SELECT', 1) + SCAN,
+    'kept-memory': head() + record(0) * 2 + kept('MEMORY', 1) + kept('MEMORY_QUANTITY', 1) + kept('MEMORY_MORE', 1)
+                   + frame(0x04, 0x00, master=0) + kept('MEMORY_QUANTITY', 2) + DUMP,
+    'kept-marks': head() + kept('MARK', 2) + SCAN + kept('MARK', 3) + SCAN + kept('MARK', 0)
+                  + kept('SILENCE', SILENT + 1) + elapsed(1) + kept('SILENCE', SILENT) + elapsed(0),
+    'kept-clock': head() + kept('DAY', 366) + SCAN + kept('DAY', 367) + SCAN + kept('DAY', 0) + record(0) + kept('DAY', 65535) + elapsed(9),
+    'counts': head() + changed(4, 0, ROOM) + DUMP + DUMP + changed(4, 0, ROOM + 1) + SCAN + changed(4, 0, 255) + DUMP,
+    'equipment': head() + changed(0, 0x20, 1) + SCAN + changed(0, 0x20, 0) + changed(1, 0x80, 1) + SCAN + changed(1, 0x80, 0)
+                 + changed(3, 0, VALUES + 1) + record(0),
+    'layout': head() + changed(9, 0, LAYOUT + 1) + SCAN + record(0) + elapsed(1) + word(0x30, 1) + changed(9, 0, LAYOUT) + SCAN + changed(9, 1, 1) + SCAN,
     'any-config': head(ANY_CONFIG, unit=0xFFFF, length=0xFFFF) + SCAN + elapsed(1) + record(0) + word(0, 1) + pulses(0x40, 1) + value(0, 1),
     'any-state': head(ANY_STATE) + SCAN + elapsed(1) + record(0) + word(0, 1) + pulses(0x40, 1) + value(0, 1),
 }
 
 
 def main():
-    folder = os.path.join(os.path.dirname(os.path.abspath(__file__)), 'corpus')
     for name, chars in INPUTS.items():
-        with open(os.path.join(folder, name), 'wb') as f:
+        with open(os.path.join(FOLDER, 'corpus', name), 'wb') as f:
             f.write(chars)
 
 

@@ -1,39 +1,89 @@
 /* Osturdam: the remote unit of the Cooper 2179 serial protocol, as a part to link (libboard.a).
  *
- * A unit is memory that the caller owns: a configuration, which the library only reads, and a unit, which each call reads and
- * changes. There is no global state, no heap and no clock: the caller hands over each stretch of characters between two idle marks,
- * the milliseconds that passed, and what happens locally. Two units do not touch.
+ * A unit is memory that its caller owns and lends to each call: its own memory (configuration, points, clock and what else it knows),
+ * its parameter block, and its records. There is no global state, no heap and no clock: the caller hands over each stretch of
+ * characters between two idle marks, the milliseconds that passed, and what happens locally. Nothing is kept by the library between
+ * calls, and two units do not touch.
  *
- * Every call takes any configuration and any contents of a unit, tells by its outcome what it made of them, and returns. Nothing is
- * read or written past the lengths given here. A pointer whose length is 0 may be null; no other may. Parts of one unit, the
- * configuration, a stretch and a buffer must not overlap. */
+ * Every call takes any contents of what is lent, tells by its outcome what it made of them, and returns. Nothing is read or written past
+ * the lengths given. What is lent to one call must not overlap, but for what is only read. A pointer whose length is 0 may be null; no
+ * other may.
+ *
+ *     static struct osturdam_config config;
+ *     static struct osturdam_together all;
+ *
+ *     if (osturdam_layout() != OSTURDAM_LAYOUT)
+ *         give_up();
+ *     osturdam_put_number(&config, 1234);
+ *     osturdam_equip_input(&config, 0x40);
+ *     struct osturdam_lent lent = osturdam_lend(&all, &config);
+ *     osturdam_begin(&lent, &config);
+ *
+ *     struct osturdam_heard heard = { .chars = line, .count = many, .buffer = reply, .room = sizeof reply };
+ *     struct osturdam_turned turned;
+ *     osturdam_hear(&lent, &heard, &turned);
+ *
+ * Then the caller stores what it lent, has the output do what `turned` says, and sends `turned.sent` characters of the buffer. */
 #ifndef OSTURDAM_H
 #define OSTURDAM_H
 
-#include <stddef.h>
 #include <stdint.h>
 
 #ifdef __cplusplus
 extern "C" {
 #endif
 
-/* ---- limits */
+/* Of this interface: one more where a call changes, or the meaning of what it takes. Where a unit's memory changes, OSTURDAM_LAYOUT is
+ * another, and a unit that was stored in another layout is OSTURDAM_NOT_CONFIGURED. A program holds this header to its library once, before
+ * its first unit: osturdam_layout() == OSTURDAM_LAYOUT. */
+#define OSTURDAM_VERSION 2
 
+/* ---- limits, lengths, and where a unit's parts lie in its memory */
+
+/* from here on made by tools/places */
 enum {
-    OSTURDAM_INPUTS = 256,       /* input, output and calculation numbers */
-    OSTURDAM_CALCULATIONS = 128, /* calculation values kept */
-    OSTURDAM_FILES = 32,         /* history files */
-    OSTURDAM_FIXED = 528,        /* characters of the blocks of fixed length */
-    OSTURDAM_BLOCK = 512,        /* the longest parameter block */
-    OSTURDAM_AREA = 38912,       /* characters of records */
-    OSTURDAM_FRAME = 136,        /* the longest frame of a master */
-    OSTURDAM_REPLY = 520,        /* the longest reply, and the shortest buffer that a stretch is served with */
-    OSTURDAM_VALUES = 16,        /* the most values in a record */
-    OSTURDAM_ROOM = 32           /* the most records in a file */
+    OSTURDAM_INPUTS = 256,          /* input, output and calculation numbers */
+    OSTURDAM_CALCULATIONS = 128,    /* calculation values kept */
+    OSTURDAM_FILES = 32,            /* history files */
+    OSTURDAM_FIXED = 528,           /* characters of the blocks of fixed length */
+    OSTURDAM_BLOCK = 512,           /* the longest parameter block */
+    OSTURDAM_FRAME = 136,           /* the longest frame of a master */
+    OSTURDAM_REPLY = 520,           /* the longest reply, and the shortest buffer that a stretch is served with */
+    OSTURDAM_VALUES = 16,           /* the most values in a record */
+    OSTURDAM_ROOM = 32,             /* the most records in a file */
+    OSTURDAM_RECORD_HEAD = 6,       /* a record's characters before its values: event and clock */
+    OSTURDAM_RECORD_SLOT = 38,      /* from one record of a file to the next */
+    OSTURDAM_RECORDS = 38912,       /* characters of records */
+    OSTURDAM_HOLD_MS = 5000,        /* for how long a select or a write is held */
+    OSTURDAM_SILENT_MS = 60000,     /* after how long with no stretch a port is silent */
+    OSTURDAM_CONFIG = 836,          /* characters of a configuration, which lies from AT_NUMBER on in a unit's memory */
+    OSTURDAM_UNIT = 2474,           /* characters of a unit's memory */
+    OSTURDAM_LAYOUT = 1,            /* the number of this layout, which stands first in the memory */
+    OSTURDAM_AT_LAYOUT = 0,
+    OSTURDAM_AT_NUMBER = 2,
+    OSTURDAM_AT_LENGTH = 4,
+    OSTURDAM_AT_INPUTS = 6,
+    OSTURDAM_AT_OUTPUTS = 262,
+    OSTURDAM_AT_CALCULATIONS = 518,
+    OSTURDAM_AT_FILES = 774,
+    OSTURDAM_AT_VALUES = 806,
+    OSTURDAM_AT_NUMBERS = 838,
+    OSTURDAM_AT_WORDS = 890,
+    OSTURDAM_AT_RESULTS = 1402,
+    OSTURDAM_AT_FIXED = 1914,
+    OSTURDAM_AT_COUNTS = 2442,
+    OSTURDAM_AT_00 = 1914,          /* the block of ordinal 00h */
+    OSTURDAM_LENGTH_00 = 16,
+    OSTURDAM_AT_03 = 1930,          /* the block of ordinal 03h */
+    OSTURDAM_LENGTH_03 = 256,
+    OSTURDAM_AT_0B = 2186,          /* the block of ordinal 0Bh */
+    OSTURDAM_LENGTH_0B = 256
 };
+/* to here */
 
-/* ---- outcomes: how an event ended */
+/* ---- numbers with names */
 
+/* How an event ended. */
 enum osturdam_outcome {
     OSTURDAM_DONE = 0,
     OSTURDAM_NOT_WHOLE = 1,         /* no whole frame */
@@ -52,16 +102,17 @@ enum osturdam_outcome {
     OSTURDAM_NOTHING_WAITS = 14,    /* nothing to operate or to execute */
     OSTURDAM_WRITE_HELD = 15,       /* another master's write waits */
     OSTURDAM_BROADCAST_REFUSED = 16,
-    OSTURDAM_NOT_CONFIGURED = 17,   /* the configuration is not valid or the unit is not in range: nothing was changed */
+    OSTURDAM_NOT_CONFIGURED = 17,   /* configuration, unit or what is lent is not one of a unit in range: nothing was changed */
     OSTURDAM_BUFFER_SHORT = 18      /* the buffer is shorter than OSTURDAM_REPLY: nothing was changed */
 };
 
-/* How storing a record ended; OSTURDAM_NOT_CONFIGURED is told here too. */
+/* How storing a record ended: these are no outcomes. */
 enum osturdam_stored {
     OSTURDAM_STORED = 0,
-    OSTURDAM_FILE_FULL = 1,     /* nothing was stored, and the error bit is set */
-    OSTURDAM_NO_FILE = 2,       /* the file is not equipped */
-    OSTURDAM_WRONG_VALUES = 3   /* not as many values as the file's records have */
+    OSTURDAM_FILE_FULL = 1,         /* nothing was stored, and the error bit is set */
+    OSTURDAM_NO_FILE = 2,           /* the file is not equipped */
+    OSTURDAM_WRONG_VALUES = 3,      /* not as many values as the file's records have */
+    OSTURDAM_STORE_NOT_CONFIGURED = 17 /* as OSTURDAM_NOT_CONFIGURED: nothing was changed */
 };
 
 /* What the caller has a control output do now. */
@@ -71,152 +122,412 @@ enum osturdam_action {
     OSTURDAM_CLOSE = 2
 };
 
-/* ---- a unit's memory */
-
-/* Which numbers are equipped (0: not; any other value: equipped), and how long records and the parameter block are. */
-struct osturdam_config {
-    uint16_t unit;                    /* 0 to 7FEh */
-    size_t length;                    /* of the parameter block, 0 to OSTURDAM_BLOCK */
-    uint8_t inputs[OSTURDAM_INPUTS];  /* 00-1Fh two-bit status, 30h-3Fh simple status, 40h-5Fh accumulators, 80h-FFh analogs */
-    uint8_t outputs[OSTURDAM_INPUTS];
-    uint8_t calculations[OSTURDAM_INPUTS]; /* 00 to 7Fh */
-    uint8_t files[OSTURDAM_FILES];
-    uint8_t values[OSTURDAM_FILES];   /* of each equipped file: 1 to OSTURDAM_VALUES */
+/* The unit's one select. */
+enum osturdam_hold {
+    OSTURDAM_FREE = 0,
+    OSTURDAM_HELD = 1,
+    OSTURDAM_TIMED_OUT = 2          /* a master's select has, which is told to it once */
 };
 
-/* What is kept besides areas and records, as plain numbers: any memory may hold them, and numbers that no unit writes are told by
- * OSTURDAM_NOT_CONFIGURED. Where nothing is held, waits or is remembered, its other numbers are 0. */
-struct osturdam_kept {
-    uint16_t day, hour, minute, second, ms; /* the clock: day 1 to 366 */
-    uint16_t hold;                          /* 0 no select, 1 a select is held, 2 a master's select has timed out */
-    uint16_t hold_master, hold_output, hold_close, hold_age;
-    uint16_t write;                         /* 0 no write, 1 a write waits */
-    uint16_t write_master, write_bias, write_ordinal, write_age;
-    uint16_t configure, error, broadcast;   /* status bits 7, 3 and 2 */
-    uint16_t memory;                        /* 0 nothing, 1 the latest history reply is remembered */
-    uint16_t memory_master, memory_file, memory_dump, memory_quantity, memory_more;
-    uint16_t silence;                       /* milliseconds with no stretch, to 60,000 */
-    uint16_t mark;                          /* of port 1: 0 in order, 1 silent for a minute or more, 2 damage was heard */
+/* The unit's one write. */
+enum osturdam_pending {
+    OSTURDAM_NO_WRITE = 0,
+    OSTURDAM_WAITS = 1
+};
+
+/* The latest history reply: its records are released when its master acknowledges. */
+enum osturdam_memory {
+    OSTURDAM_NOTHING = 0,
+    OSTURDAM_REMEMBERED = 1
+};
+
+/* The state of port 1. */
+enum osturdam_mark {
+    OSTURDAM_FINE = 0,
+    OSTURDAM_SILENT = 1,            /* for OSTURDAM_SILENT_MS or more */
+    OSTURDAM_DAMAGED = 2            /* damage was heard */
+};
+
+/* The blocks that a master writes and reads. */
+enum osturdam_ordinal {
+    OSTURDAM_ORDINAL_00 = 0x00,     /* written, it clears the error bit */
+    OSTURDAM_ORDINAL_03 = 0x03,     /* the table area; written, the unit is configured */
+    OSTURDAM_ORDINAL_06 = 0x06,     /* the parameter block, a memory of its own */
+    OSTURDAM_ORDINAL_0B = 0x0B
+};
+
+/* The numbers that a unit keeps besides its points, blocks and records, each a word of `numbers`. Where nothing is held, waits or is
+ * remembered, its other numbers are 0. Any may be stored; numbers that no unit writes are told by OSTURDAM_NOT_CONFIGURED. */
+enum osturdam_kept {
+    OSTURDAM_DAY = 0,               /* 1 to 366 */
+    OSTURDAM_HOUR = 1,
+    OSTURDAM_MINUTE = 2,
+    OSTURDAM_SECOND = 3,
+    OSTURDAM_MS = 4,
+    OSTURDAM_SELECT = 5,            /* enum osturdam_hold */
+    OSTURDAM_SELECT_MASTER = 6,
+    OSTURDAM_SELECT_OUTPUT = 7,
+    OSTURDAM_SELECT_CLOSE = 8,      /* 1 to close, 0 to open */
+    OSTURDAM_SELECT_AGE = 9,        /* milliseconds, to OSTURDAM_HOLD_MS */
+    OSTURDAM_WRITE = 10,            /* enum osturdam_pending */
+    OSTURDAM_WRITE_MASTER = 11,
+    OSTURDAM_WRITE_BIAS = 12,
+    OSTURDAM_WRITE_ORDINAL = 13,
+    OSTURDAM_WRITE_AGE = 14,
+    OSTURDAM_STATUS_CONFIGURE = 15, /* status bit 7: the unit is to be configured */
+    OSTURDAM_STATUS_ERROR = 16,     /* status bit 3: a file was full */
+    OSTURDAM_STATUS_BROADCAST = 17, /* status bit 2: a broadcast was heard */
+    OSTURDAM_MEMORY = 18,           /* enum osturdam_memory */
+    OSTURDAM_MEMORY_MASTER = 19,
+    OSTURDAM_MEMORY_FILE = 20,
+    OSTURDAM_MEMORY_DUMP = 21,      /* 1: as many records as fit, 0: one */
+    OSTURDAM_MEMORY_QUANTITY = 22,
+    OSTURDAM_MEMORY_MORE = 23,      /* 1: it said that more are held */
+    OSTURDAM_SILENCE = 24,          /* milliseconds with no stretch, to OSTURDAM_SILENT_MS */
+    OSTURDAM_MARK = 25,             /* enum osturdam_mark */
+    OSTURDAM_KEPT = 26              /* how many there are */
+};
+
+/* ---- a unit's memory: characters alone, in the same order on every machine, with nothing between them
+ *
+ * Words, values and kept numbers are characters too, low character first; the calls below read and write them. So a stored unit is a file
+ * or a page of FRAM as it stands. */
+
+/* Which numbers are equipped (0: not; any other character: equipped), and how long records and the parameter block are. A configuration
+ * is given once, to osturdam_begin, which lays it into the unit; its parts stand in it by OSTURDAM_AT_NUMBER less than in the unit. */
+struct osturdam_config {
+    uint8_t number[2];                      /* of the unit: 0 to 7FEh */
+    uint8_t length[2];                      /* of the parameter block, 0 to OSTURDAM_BLOCK */
+    uint8_t inputs[OSTURDAM_INPUTS];        /* 00-1Fh two-bit status, 30h-3Fh simple status, 40h-5Fh accumulators, 80h-FFh analogs */
+    uint8_t outputs[OSTURDAM_INPUTS];
+    uint8_t calculations[OSTURDAM_INPUTS];  /* 00 to 7Fh */
+    uint8_t files[OSTURDAM_FILES];
+    uint8_t values[OSTURDAM_FILES];         /* of each equipped file: 1 to OSTURDAM_VALUES */
 };
 
 struct osturdam_unit {
-    struct osturdam_kept kept;
-    uint16_t words[OSTURDAM_INPUTS];
-    uint32_t results[OSTURDAM_CALCULATIONS];
-    uint8_t fixed[OSTURDAM_FIXED];
-    uint8_t block[OSTURDAM_BLOCK];   /* its first `length` characters are the parameter block */
-    uint8_t area[OSTURDAM_AREA];     /* the characters of the records */
-    uint8_t counts[OSTURDAM_FILES];  /* how many records each file holds */
+    uint8_t layout[2];                      /* OSTURDAM_LAYOUT */
+    struct osturdam_config config;
+    uint8_t numbers[2 * OSTURDAM_KEPT];     /* enum osturdam_kept */
+    uint8_t words[2 * OSTURDAM_INPUTS];
+    uint8_t results[4 * OSTURDAM_CALCULATIONS];
+    uint8_t fixed[OSTURDAM_FIXED];          /* the blocks of ordinals 00, 03 and 0Bh */
+    uint8_t counts[OSTURDAM_FILES];         /* how many records each file holds */
+};
+
+/* What a unit's caller lends. Records lie in slots: record i of file f, the oldest being 0, from character
+ * (f * OSTURDAM_ROOM + i) * OSTURDAM_RECORD_SLOT on. Fewer characters of records than OSTURDAM_RECORDS are OSTURDAM_NOT_CONFIGURED, and so is
+ * a block of another length than the configuration's; what lies behind OSTURDAM_RECORDS is never touched. */
+struct osturdam_lent {
+    struct osturdam_unit *unit;
+    uint8_t *block;                         /* the parameter block */
+    uint64_t length;                        /* of the parameter block */
+    uint8_t *records;
+    uint64_t room;                          /* characters of records */
+};
+
+/* A unit that lies all together. */
+struct osturdam_together {
+    struct osturdam_unit unit;
+    uint8_t block[OSTURDAM_BLOCK];          /* its first characters are the parameter block */
+    uint8_t records[OSTURDAM_RECORDS];
+};
+
+/* What a stretch comes with: to be filled by the fields' names, the others 0, since fields may be added. */
+struct osturdam_heard {
+    const uint8_t *chars;                   /* the characters between two idle marks */
+    uint64_t count;
+    uint8_t *buffer;                        /* for the reply */
+    uint64_t room;                          /* of the buffer: OSTURDAM_REPLY or more */
 };
 
 /* How a stretch ended. */
 struct osturdam_turned {
-    size_t sent;     /* how many characters at the front of the buffer are to be sent; 0: nothing */
-    uint8_t outcome; /* enum osturdam_outcome */
-    uint8_t action;  /* enum osturdam_action */
-    uint8_t output;  /* the control output of the action */
+    uint16_t sent;                          /* how many characters at the front of the buffer are to be sent; 0: nothing */
+    enum osturdam_outcome outcome;
+    enum osturdam_action action;
+    uint8_t output;                         /* the control output of the action */
 };
 
-/* ---- events of a unit whose parts lie in memories of their own (records in FRAM, say): what the library exports
- *
- * Each takes the configuration's parts in their order, then the parts of the unit that the event reads or changes. */
+/* ---- what the library exports; the calls further down are made of these */
 
-/* A fresh unit: clock on day 1, 00:00:00.000, all areas 0, no record counted. The characters of records need no clearing. */
-void osturdam_fresh(struct osturdam_kept *kept, uint16_t words[OSTURDAM_INPUTS], uint32_t results[OSTURDAM_CALCULATIONS],
-                    uint8_t fixed[OSTURDAM_FIXED], uint8_t *block, size_t lent, uint8_t counts[OSTURDAM_FILES]);
+/* The number of the layout that the library reads and writes, and by which it judges a unit's memory. */
+uint16_t osturdam_layout(void);
 
-/* A stretch of characters between two idle marks was heard. The reply is the front part of the buffer; the rest of the buffer is not
- * written. The caller stores the unit, then sends. */
-struct osturdam_turned osturdam_stretch(uint16_t unit, size_t length, const uint8_t inputs[OSTURDAM_INPUTS],
-                                        const uint8_t outputs[OSTURDAM_INPUTS], const uint8_t calculations[OSTURDAM_INPUTS],
-                                        const uint8_t files[OSTURDAM_FILES], const uint8_t values[OSTURDAM_FILES],
-                                        struct osturdam_kept *kept, uint16_t words[OSTURDAM_INPUTS],
-                                        const uint32_t results[OSTURDAM_CALCULATIONS], uint8_t fixed[OSTURDAM_FIXED], uint8_t *block,
-                                        size_t lent, uint8_t area[OSTURDAM_AREA], uint8_t counts[OSTURDAM_FILES], uint8_t *buffer,
-                                        size_t room, const uint8_t *stretch, size_t heard);
+/* 1 for a configuration that a unit can have, else 0. */
+uint8_t osturdam_valid(const uint8_t config[OSTURDAM_CONFIG]);
 
-/* So many milliseconds have passed. Answers an outcome. */
-uint8_t osturdam_elapsed(uint16_t unit, size_t length, const uint8_t inputs[OSTURDAM_INPUTS], const uint8_t outputs[OSTURDAM_INPUTS],
-                         const uint8_t calculations[OSTURDAM_INPUTS], const uint8_t files[OSTURDAM_FILES],
-                         const uint8_t values[OSTURDAM_FILES], struct osturdam_kept *kept, const uint8_t *block, size_t lent,
-                         const uint8_t counts[OSTURDAM_FILES], uint32_t ms);
+void osturdam_fresh(uint8_t unit[OSTURDAM_UNIT], uint8_t *block, uint64_t length, const uint8_t config[OSTURDAM_CONFIG]);
 
-/* A status or analog word is now this. Answers an outcome. */
-uint8_t osturdam_set_word(uint16_t unit, size_t length, const uint8_t inputs[OSTURDAM_INPUTS], const uint8_t outputs[OSTURDAM_INPUTS],
-                          const uint8_t calculations[OSTURDAM_INPUTS], const uint8_t files[OSTURDAM_FILES],
-                          const uint8_t values[OSTURDAM_FILES], const struct osturdam_kept *kept, uint16_t words[OSTURDAM_INPUTS],
-                          const uint8_t *block, size_t lent, const uint8_t counts[OSTURDAM_FILES], uint8_t input, uint16_t word);
+/* `turned` receives: low and high character of how many are sent, action, output. */
+uint8_t osturdam_stretch(uint8_t unit[OSTURDAM_UNIT], uint8_t *block, uint64_t length, uint8_t *records, uint64_t room, uint8_t *buffer,
+                         uint64_t buffer_room, const uint8_t *chars, uint64_t count, uint8_t turned[4]);
 
-/* So many pulses were counted on an accumulator. Answers an outcome. */
-uint8_t osturdam_pulses(uint16_t unit, size_t length, const uint8_t inputs[OSTURDAM_INPUTS], const uint8_t outputs[OSTURDAM_INPUTS],
-                        const uint8_t calculations[OSTURDAM_INPUTS], const uint8_t files[OSTURDAM_FILES],
-                        const uint8_t values[OSTURDAM_FILES], const struct osturdam_kept *kept, uint16_t words[OSTURDAM_INPUTS],
-                        const uint8_t *block, size_t lent, const uint8_t counts[OSTURDAM_FILES], uint8_t input, uint16_t count);
+uint8_t osturdam_elapsed(uint8_t unit[OSTURDAM_UNIT], const uint8_t *block, uint64_t length, const uint8_t *records, uint64_t room,
+                         uint32_t ms);
 
-/* A calculation's value is now this pattern of 32 bits. Answers an outcome. */
-uint8_t osturdam_set_value(uint16_t unit, size_t length, const uint8_t inputs[OSTURDAM_INPUTS], const uint8_t outputs[OSTURDAM_INPUTS],
-                           const uint8_t calculations[OSTURDAM_INPUTS], const uint8_t files[OSTURDAM_FILES],
-                           const uint8_t values[OSTURDAM_FILES], const struct osturdam_kept *kept,
-                           uint32_t results[OSTURDAM_CALCULATIONS], const uint8_t *block, size_t lent,
-                           const uint8_t counts[OSTURDAM_FILES], uint8_t calculation, uint32_t value);
+uint8_t osturdam_set_word(uint8_t unit[OSTURDAM_UNIT], const uint8_t *block, uint64_t length, const uint8_t *records, uint64_t room,
+                          uint8_t input, uint16_t word);
 
-/* A record of these values is to be stored under the unit's clock. Answers an osturdam_stored, or OSTURDAM_NOT_CONFIGURED. */
-uint8_t osturdam_store_record(uint16_t unit, size_t length, const uint8_t inputs[OSTURDAM_INPUTS],
-                              const uint8_t outputs[OSTURDAM_INPUTS], const uint8_t calculations[OSTURDAM_INPUTS],
-                              const uint8_t files[OSTURDAM_FILES], const uint8_t values[OSTURDAM_FILES], struct osturdam_kept *kept,
-                              const uint8_t *block, size_t lent, uint8_t area[OSTURDAM_AREA], uint8_t counts[OSTURDAM_FILES],
-                              uint8_t file, uint8_t event, const uint16_t *given, size_t many);
+uint8_t osturdam_pulses(uint8_t unit[OSTURDAM_UNIT], const uint8_t *block, uint64_t length, const uint8_t *records, uint64_t room,
+                        uint8_t input, uint16_t count);
 
-/* ---- the same events of a unit that lies together */
+uint8_t osturdam_set_value(uint8_t unit[OSTURDAM_UNIT], const uint8_t *block, uint64_t length, const uint8_t *records, uint64_t room,
+                           uint8_t calculation, uint32_t value);
 
-/* The parameter block's length as the configuration has it, if it fits: one that does not is told by the next event. */
-static inline size_t osturdam_lent(const struct osturdam_config *c)
+uint8_t osturdam_store_record(uint8_t unit[OSTURDAM_UNIT], const uint8_t *block, uint64_t length, uint8_t *records, uint64_t room,
+                              uint8_t file, uint8_t event, const uint16_t *values, uint64_t many);
+
+/* ---- characters as words and values */
+
+static inline uint16_t osturdam_word_at(const uint8_t *place)
 {
-    return c->length <= OSTURDAM_BLOCK ? c->length : 0;
+    return (uint16_t)(place[0] | place[1] << 8);
 }
 
-static inline void osturdam_unit_fresh(const struct osturdam_config *c, struct osturdam_unit *u)
+static inline void osturdam_word_to(uint8_t *place, uint16_t word)
 {
-    osturdam_fresh(&u->kept, u->words, u->results, u->fixed, u->block, osturdam_lent(c), u->counts);
+    place[0] = (uint8_t)(word & 0xFF);
+    place[1] = (uint8_t)(word >> 8);
 }
 
-static inline struct osturdam_turned osturdam_unit_stretch(const struct osturdam_config *c, struct osturdam_unit *u, const uint8_t *stretch,
-                                                           size_t heard, uint8_t *buffer, size_t room)
+static inline uint32_t osturdam_value_at(const uint8_t *place)
 {
-    return osturdam_stretch(c->unit, c->length, c->inputs, c->outputs, c->calculations, c->files, c->values, &u->kept, u->words,
-                            u->results, u->fixed, u->block, osturdam_lent(c), u->area, u->counts, buffer, room, stretch, heard);
+    return osturdam_word_at(place) | (uint32_t)osturdam_word_at(place + 2) << 16;
 }
 
-static inline uint8_t osturdam_unit_elapsed(const struct osturdam_config *c, struct osturdam_unit *u, uint32_t ms)
+static inline void osturdam_value_to(uint8_t *place, uint32_t value)
 {
-    return osturdam_elapsed(c->unit, c->length, c->inputs, c->outputs, c->calculations, c->files, c->values, &u->kept, u->block,
-                            osturdam_lent(c), u->counts, ms);
+    osturdam_word_to(place, (uint16_t)(value & 0xFFFF));
+    osturdam_word_to(place + 2, (uint16_t)(value >> 16));
 }
 
-static inline uint8_t osturdam_unit_set_word(const struct osturdam_config *c, struct osturdam_unit *u, uint8_t input, uint16_t word)
+/* ---- a configuration: nothing is equipped in one that is all 0 */
+
+static inline uint16_t osturdam_number_of(const struct osturdam_config *c)
 {
-    return osturdam_set_word(c->unit, c->length, c->inputs, c->outputs, c->calculations, c->files, c->values, &u->kept, u->words,
-                             u->block, osturdam_lent(c), u->counts, input, word);
+    return osturdam_word_at(c->number);
 }
 
-static inline uint8_t osturdam_unit_pulses(const struct osturdam_config *c, struct osturdam_unit *u, uint8_t input, uint16_t count)
+static inline void osturdam_put_number(struct osturdam_config *c, uint16_t number)
 {
-    return osturdam_pulses(c->unit, c->length, c->inputs, c->outputs, c->calculations, c->files, c->values, &u->kept, u->words, u->block,
-                           osturdam_lent(c), u->counts, input, count);
+    osturdam_word_to(c->number, number);
 }
 
-static inline uint8_t osturdam_unit_set_value(const struct osturdam_config *c, struct osturdam_unit *u, uint8_t calculation,
-                                              uint32_t value)
+/* Of the parameter block. */
+static inline uint16_t osturdam_length_of(const struct osturdam_config *c)
 {
-    return osturdam_set_value(c->unit, c->length, c->inputs, c->outputs, c->calculations, c->files, c->values, &u->kept, u->results,
-                              u->block, osturdam_lent(c), u->counts, calculation, value);
+    return osturdam_word_at(c->length);
 }
 
-static inline uint8_t osturdam_unit_store_record(const struct osturdam_config *c, struct osturdam_unit *u, uint8_t file, uint8_t event,
-                                                 const uint16_t *given, size_t many)
+static inline void osturdam_put_length(struct osturdam_config *c, uint16_t length)
 {
-    return osturdam_store_record(c->unit, c->length, c->inputs, c->outputs, c->calculations, c->files, c->values, &u->kept, u->block,
-                                 osturdam_lent(c), u->area, u->counts, file, event, given, many);
+    osturdam_word_to(c->length, length);
+}
+
+static inline int osturdam_has_input(const struct osturdam_config *c, uint8_t input)
+{
+    return c->inputs[input] != 0;
+}
+
+static inline void osturdam_equip_input(struct osturdam_config *c, uint8_t input)
+{
+    c->inputs[input] = 1;
+}
+
+static inline int osturdam_has_output(const struct osturdam_config *c, uint8_t output)
+{
+    return c->outputs[output] != 0;
+}
+
+static inline void osturdam_equip_output(struct osturdam_config *c, uint8_t output)
+{
+    c->outputs[output] = 1;
+}
+
+static inline int osturdam_has_calculation(const struct osturdam_config *c, uint8_t calculation)
+{
+    return c->calculations[calculation] != 0;
+}
+
+static inline void osturdam_equip_calculation(struct osturdam_config *c, uint8_t calculation)
+{
+    c->calculations[calculation] = 1;
+}
+
+/* No file from OSTURDAM_FILES on is equipped, and asking for one equips nothing. */
+static inline int osturdam_has_file(const struct osturdam_config *c, uint8_t file)
+{
+    return file < OSTURDAM_FILES && c->files[file] != 0;
+}
+
+/* How many values the records of a file have. */
+static inline uint8_t osturdam_values_of(const struct osturdam_config *c, uint8_t file)
+{
+    return file < OSTURDAM_FILES ? c->values[file] : (uint8_t)0;
+}
+
+static inline void osturdam_equip_file(struct osturdam_config *c, uint8_t file, uint8_t values)
+{
+    if (file < OSTURDAM_FILES) {
+        c->files[file] = 1;
+        c->values[file] = values;
+    }
+}
+
+/* Whether a unit can have it: whether osturdam_begin makes a unit of it that takes events. Of all calls it alone needs much stack, as
+ * much as a unit's memory has characters; where there is not so much, the first event tells as well. */
+static inline int osturdam_is_valid(const struct osturdam_config *c)
+{
+    return osturdam_valid((const uint8_t *)c) != 0;
+}
+
+/* ---- what a unit holds. Events change it; a caller that writes by osturdam_put_... writes what no event did. */
+
+static inline uint16_t osturdam_word_of(const struct osturdam_unit *u, uint8_t input)
+{
+    return osturdam_word_at(u->words + 2 * input);
+}
+
+static inline void osturdam_put_word(struct osturdam_unit *u, uint8_t input, uint16_t word)
+{
+    osturdam_word_to(u->words + 2 * input, word);
+}
+
+/* A number that no calculation has, has the value 0. */
+static inline uint32_t osturdam_value_of(const struct osturdam_unit *u, uint8_t calculation)
+{
+    return calculation < OSTURDAM_CALCULATIONS ? osturdam_value_at(u->results + 4 * calculation) : 0;
+}
+
+static inline void osturdam_put_value(struct osturdam_unit *u, uint8_t calculation, uint32_t value)
+{
+    if (calculation < OSTURDAM_CALCULATIONS)
+        osturdam_value_to(u->results + 4 * calculation, value);
+}
+
+/* How many records a file holds. */
+static inline uint8_t osturdam_count_of(const struct osturdam_unit *u, uint8_t file)
+{
+    return file < OSTURDAM_FILES ? u->counts[file] : (uint8_t)0;
+}
+
+static inline void osturdam_put_count(struct osturdam_unit *u, uint8_t file, uint8_t count)
+{
+    if (file < OSTURDAM_FILES)
+        u->counts[file] = count;
+}
+
+/* Where a record's characters start in what is lent for records: record 0 of a file is its oldest. */
+static inline uint64_t osturdam_record_place(uint8_t file, uint8_t record)
+{
+    return ((uint64_t)file * OSTURDAM_ROOM + record) * OSTURDAM_RECORD_SLOT;
+}
+
+/* How long the block of an ordinal of the fixed area is; 0 for any other. */
+static inline uint16_t osturdam_fixed_length(uint8_t ordinal)
+{
+    switch (ordinal) {
+    case OSTURDAM_ORDINAL_00: return OSTURDAM_LENGTH_00;
+    case OSTURDAM_ORDINAL_03: return OSTURDAM_LENGTH_03;
+    case OSTURDAM_ORDINAL_0B: return OSTURDAM_LENGTH_0B;
+    default: return 0;
+    }
+}
+
+/* Where that block starts in `fixed`. */
+static inline uint16_t osturdam_fixed_place(uint8_t ordinal)
+{
+    switch (ordinal) {
+    case OSTURDAM_ORDINAL_03: return OSTURDAM_AT_03 - OSTURDAM_AT_FIXED;
+    case OSTURDAM_ORDINAL_0B: return OSTURDAM_AT_0B - OSTURDAM_AT_FIXED;
+    default: return OSTURDAM_AT_00 - OSTURDAM_AT_FIXED;
+    }
+}
+
+/* One of the kept numbers. */
+static inline uint16_t osturdam_kept_of(const struct osturdam_unit *u, enum osturdam_kept which)
+{
+    return osturdam_word_at(u->numbers + 2 * which);
+}
+
+static inline void osturdam_put_kept(struct osturdam_unit *u, enum osturdam_kept which, uint16_t number)
+{
+    osturdam_word_to(u->numbers + 2 * which, number);
+}
+
+/* ---- lending */
+
+/* A unit that lies together, with a parameter block as long as a configuration says: the one that osturdam_begin is given, or, of a unit that
+ * was stored, its own (&t->unit.config). Of a length that does not fit none is lent, and the next event tells. */
+static inline struct osturdam_lent osturdam_lend(struct osturdam_together *t, const struct osturdam_config *c)
+{
+    struct osturdam_lent lent;
+    lent.unit = &t->unit;
+    lent.block = t->block;
+    lent.length = osturdam_length_of(c) <= OSTURDAM_BLOCK ? osturdam_length_of(c) : 0;
+    lent.records = t->records;
+    lent.room = sizeof t->records;
+    return lent;
+}
+
+/* ---- events: each judges configuration and unit, and changes nothing where OSTURDAM_NOT_CONFIGURED is its answer */
+
+/* The unit begins, whatever its memory held: the configuration, which must lie elsewhere, is laid into it, the clock is on day 1,
+ * 00:00:00.000, status bit 7 is set, all else and the parameter block are 0, and no record is counted. The characters of records are left
+ * as they are. This tells nothing: a configuration that no unit has is told by osturdam_is_valid, and by the first event. */
+static inline void osturdam_begin(const struct osturdam_lent *l, const struct osturdam_config *c)
+{
+    osturdam_fresh((uint8_t *)l->unit, l->block, l->length, (const uint8_t *)c);
+}
+
+/* A stretch was heard. Of the buffer the reply alone is written. */
+static inline enum osturdam_outcome osturdam_hear(const struct osturdam_lent *l, const struct osturdam_heard *h, struct osturdam_turned *t)
+{
+    uint8_t told[4] = { 0, 0, 0, 0 };
+    uint8_t outcome = osturdam_stretch((uint8_t *)l->unit, l->block, l->length, l->records, l->room, h->buffer, h->room, h->chars, h->count,
+                                       told);
+    t->outcome = (enum osturdam_outcome)outcome;
+    t->sent = osturdam_word_at(told);
+    t->action = (enum osturdam_action)told[2];
+    t->output = told[3];
+    return t->outcome;
+}
+
+/* So many milliseconds have passed. */
+static inline enum osturdam_outcome osturdam_wait(const struct osturdam_lent *l, uint32_t ms)
+{
+    uint8_t outcome = osturdam_elapsed((uint8_t *)l->unit, l->block, l->length, l->records, l->room, ms);
+    return (enum osturdam_outcome)outcome;
+}
+
+/* A status or analog word is now this. */
+static inline enum osturdam_outcome osturdam_take_word(const struct osturdam_lent *l, uint8_t input, uint16_t word)
+{
+    uint8_t outcome = osturdam_set_word((uint8_t *)l->unit, l->block, l->length, l->records, l->room, input, word);
+    return (enum osturdam_outcome)outcome;
+}
+
+/* So many pulses were counted on an accumulator. */
+static inline enum osturdam_outcome osturdam_take_pulses(const struct osturdam_lent *l, uint8_t input, uint16_t count)
+{
+    uint8_t outcome = osturdam_pulses((uint8_t *)l->unit, l->block, l->length, l->records, l->room, input, count);
+    return (enum osturdam_outcome)outcome;
+}
+
+/* A calculation's value is now this pattern of 32 bits. */
+static inline enum osturdam_outcome osturdam_take_value(const struct osturdam_lent *l, uint8_t calculation, uint32_t value)
+{
+    uint8_t outcome = osturdam_set_value((uint8_t *)l->unit, l->block, l->length, l->records, l->room, calculation, value);
+    return (enum osturdam_outcome)outcome;
+}
+
+/* A record of these values is to be stored under the unit's clock. */
+static inline enum osturdam_stored osturdam_take_record(const struct osturdam_lent *l, uint8_t file, uint8_t event, const uint16_t *values,
+                                                        uint64_t many)
+{
+    uint8_t stored = osturdam_store_record((uint8_t *)l->unit, l->block, l->length, l->records, l->room, file, event, values, many);
+    return (enum osturdam_stored)stored;
 }
 
 #ifdef __cplusplus

@@ -9,7 +9,8 @@
 enum { UNIT = 1234, ONE = 1, OTHER = 2 };
 
 static struct osturdam_config config;
-static struct osturdam_unit unit;
+static struct osturdam_together all;
+static struct osturdam_lent lent;
 static uint8_t buffer[OSTURDAM_REPLY];
 static int failed;
 
@@ -24,29 +25,57 @@ static void expect(const char *what, int wanted, int got)
 /* A limit or outcome of the header, and what the library answers. */
 #define EXPECT(constant, got) expect(#constant, constant, got)
 
-/* A unit with something of each kind; records of file 0 are the longest. */
-static void begin(void)
+/* A configuration with something of each kind; records of file 0 are the longest. */
+static void configure(void)
 {
     memset(&config, 0, sizeof config);
-    config.unit = UNIT;
-    config.length = OSTURDAM_BLOCK;
-    config.inputs[0x40] = config.outputs[0x40] = 1;
-    memset(config.calculations, 1, OSTURDAM_CALCULATIONS);
-    config.files[0] = config.files[OSTURDAM_FILES - 1] = 1;
-    config.values[0] = config.values[OSTURDAM_FILES - 1] = OSTURDAM_VALUES;
-    osturdam_unit_fresh(&config, &unit);
+    osturdam_put_number(&config, UNIT);
+    osturdam_put_length(&config, OSTURDAM_BLOCK);
+    osturdam_equip_input(&config, 0x30);
+    osturdam_equip_input(&config, 0x40);
+    osturdam_equip_output(&config, 0x40);
+    for (int n = 0; n < OSTURDAM_CALCULATIONS; n++)
+        osturdam_equip_calculation(&config, (uint8_t)n);
+    osturdam_equip_file(&config, 0, OSTURDAM_VALUES);
+    osturdam_equip_file(&config, OSTURDAM_FILES - 1, OSTURDAM_VALUES);
+}
+
+static void start(void)
+{
+    lent = osturdam_lend(&all, &config);
+    osturdam_begin(&lent, &config);
+}
+
+static void begin(void)
+{
+    configure();
+    start();
+}
+
+static struct osturdam_turned heard(const uint8_t *chars, size_t count, size_t room)
+{
+    struct osturdam_heard stretch = { .chars = chars, .count = count, .buffer = buffer, .room = room };
+    struct osturdam_turned turned;
+    enum osturdam_outcome outcome = osturdam_hear(&lent, &stretch, &turned);
+    expect("the outcome told", outcome, turned.outcome);
+    return turned;
 }
 
 static struct osturdam_turned to(unsigned number, unsigned master, unsigned function, unsigned command, const char *data, size_t many)
 {
     uint8_t frame[OSTURDAM_FRAME + 1];
     size_t length = line_frame(frame, number, master, function, command, (const uint8_t *)data, many);
-    return osturdam_unit_stretch(&config, &unit, frame, length, buffer, sizeof buffer);
+    return heard(frame, length, sizeof buffer);
 }
 
 static int ask(unsigned master, unsigned function, unsigned command, const char *data, size_t many)
 {
     return to(UNIT, master, function, command, data, many).outcome;
+}
+
+static int kept(enum osturdam_kept which)
+{
+    return osturdam_kept_of(&all.unit, which);
 }
 
 static void stretches(void)
@@ -57,10 +86,10 @@ static void stretches(void)
     EXPECT(OSTURDAM_WRONG_COUNT, ask(ONE, 0x00, 0x41, zeros, OSTURDAM_FRAME - 8));
     EXPECT(OSTURDAM_NOT_WHOLE, ask(ONE, 0x00, 0x41, zeros, OSTURDAM_FRAME - 7));
     size_t length = line_frame(frame, UNIT, ONE, 0x00, 0x41, NULL, 0);
-    EXPECT(OSTURDAM_BUFFER_SHORT, osturdam_unit_stretch(&config, &unit, frame, length, buffer, OSTURDAM_REPLY - 1).outcome);
-    EXPECT(OSTURDAM_DONE, osturdam_unit_stretch(&config, &unit, frame, length, buffer, OSTURDAM_REPLY).outcome);
+    EXPECT(OSTURDAM_BUFFER_SHORT, heard(frame, length, OSTURDAM_REPLY - 1).outcome);
+    EXPECT(OSTURDAM_DONE, heard(frame, length, OSTURDAM_REPLY).outcome);
     frame[3] ^= 1;
-    EXPECT(OSTURDAM_CHECK_WRONG, osturdam_unit_stretch(&config, &unit, frame, length, buffer, OSTURDAM_REPLY).outcome);
+    EXPECT(OSTURDAM_CHECK_WRONG, heard(frame, length, OSTURDAM_REPLY).outcome);
     EXPECT(OSTURDAM_OTHER_UNIT, to(UNIT + 1, ONE, 0x00, 0x41, NULL, 0).outcome);
     EXPECT(OSTURDAM_BROADCAST_DONE, to(LINE_BROADCAST, ONE, 0x20, 0x11, "\x40", 1).outcome);
     EXPECT(OSTURDAM_BROADCAST_REFUSED, to(LINE_BROADCAST, ONE, 0x00, 0x41, NULL, 0).outcome);
@@ -73,8 +102,13 @@ static void stretches(void)
 static void selects_and_writes(void)
 {
     begin();
+    EXPECT(OSTURDAM_FREE, kept(OSTURDAM_SELECT));
     EXPECT(OSTURDAM_NOTHING_WAITS, ask(ONE, 0x10, 0x20, NULL, 0));
     EXPECT(OSTURDAM_REST, to(UNIT, ONE, 0x10, 0x11, "\x40", 1).action);
+    EXPECT(OSTURDAM_HELD, kept(OSTURDAM_SELECT));
+    expect("the select's master", ONE, kept(OSTURDAM_SELECT_MASTER));
+    expect("the select's output", 0x40, kept(OSTURDAM_SELECT_OUTPUT));
+    expect("the select's close", 1, kept(OSTURDAM_SELECT_CLOSE));
     EXPECT(OSTURDAM_SELECT_HELD, ask(OTHER, 0x10, 0x20, NULL, 0));
     EXPECT(OSTURDAM_CLOSE, to(UNIT, ONE, 0x10, 0x20, NULL, 0).action);
     EXPECT(OSTURDAM_DONE, ask(ONE, 0x10, 0x10, "\x40", 1));
@@ -84,56 +118,170 @@ static void selects_and_writes(void)
     EXPECT(OSTURDAM_DONE, ask(ONE, 0x10, 0x10, "\x40", 1));
     EXPECT(OSTURDAM_BROKEN_OFF, ask(ONE, 0x00, 0x41, NULL, 0));
     EXPECT(OSTURDAM_DONE, ask(ONE, 0x10, 0x10, "\x40", 1));
-    EXPECT(OSTURDAM_DONE, osturdam_unit_elapsed(&config, &unit, 5001));
+    EXPECT(OSTURDAM_DONE, osturdam_wait(&lent, OSTURDAM_HOLD_MS));
+    EXPECT(OSTURDAM_HOLD_MS, kept(OSTURDAM_SELECT_AGE));
+    EXPECT(OSTURDAM_DONE, osturdam_wait(&lent, 1));
+    EXPECT(OSTURDAM_TIMED_OUT, kept(OSTURDAM_SELECT));
     EXPECT(OSTURDAM_SELECT_TIMED_OUT, ask(ONE, 0x10, 0x20, NULL, 0));
-    EXPECT(OSTURDAM_WRITE_TAKEN, ask(ONE, 0x20, 0x30, "\0\0\6", 3));
+    EXPECT(OSTURDAM_NO_WRITE, kept(OSTURDAM_WRITE));
+    EXPECT(OSTURDAM_WRITE_TAKEN, ask(ONE, 0x20, 0x30, "\x34\x12\6", 3));
+    EXPECT(OSTURDAM_WAITS, kept(OSTURDAM_WRITE));
+    expect("the write's master", ONE, kept(OSTURDAM_WRITE_MASTER));
+    expect("the write's bias", 0x1234, kept(OSTURDAM_WRITE_BIAS));
+    EXPECT(OSTURDAM_ORDINAL_06, kept(OSTURDAM_WRITE_ORDINAL));
     EXPECT(OSTURDAM_WRITE_HELD, ask(OTHER, 0x20, 0x30, "\0\0\6", 3));
+    EXPECT(OSTURDAM_DONE, osturdam_wait(&lent, OSTURDAM_HOLD_MS));
+    EXPECT(OSTURDAM_HOLD_MS, kept(OSTURDAM_WRITE_AGE));
+}
+
+/* A character written through the line into the last place of each ordinal's block is found there. */
+static void blocks(void)
+{
+    static const uint8_t ordinals[] = { OSTURDAM_ORDINAL_00, OSTURDAM_ORDINAL_03, OSTURDAM_ORDINAL_0B, OSTURDAM_ORDINAL_06 };
+    begin();
+    for (size_t i = 0; i < sizeof ordinals; i++) {
+        uint8_t ordinal = ordinals[i];
+        uint16_t length = ordinal == OSTURDAM_ORDINAL_06 ? (uint16_t)OSTURDAM_BLOCK : osturdam_fixed_length(ordinal);
+        const uint8_t *block = ordinal == OSTURDAM_ORDINAL_06 ? all.block : all.unit.fixed + osturdam_fixed_place(ordinal);
+        char where[3] = { (char)((length - 1) & 0xFF), (char)((length - 1) >> 8), (char)ordinal };
+        EXPECT(OSTURDAM_WRITE_TAKEN, ask(ONE, 0x20, 0x30, where, 3));
+        EXPECT(OSTURDAM_DONE, ask(ONE, 0x20, 0x31, "x", 1));
+        expect("the last character of a block", 'x', block[length - 1]);
+        EXPECT(OSTURDAM_WRITE_TAKEN, ask(ONE, 0x20, 0x30, where, 3));
+        EXPECT(OSTURDAM_NOT_VALID, ask(ONE, 0x20, 0x31, "xy", 2));
+    }
+    expect("the configure bit", 0, kept(OSTURDAM_STATUS_CONFIGURE));
 }
 
 static int stored(uint8_t file, size_t many)
 {
-    static const uint16_t values[OSTURDAM_VALUES + 1];
-    return osturdam_unit_store_record(&config, &unit, file, 7, values, many);
+    static const uint16_t values[OSTURDAM_VALUES + 1] = { 0x1234 };
+    return osturdam_take_record(&lent, file, 7, values, many);
 }
 
 static void records(void)
 {
+    const uint8_t last = OSTURDAM_FILES - 1;
     begin();
-    for (int i = 0; i < OSTURDAM_ROOM; i++)
-        EXPECT(OSTURDAM_STORED, stored(OSTURDAM_FILES - 1, OSTURDAM_VALUES));
-    EXPECT(OSTURDAM_FILE_FULL, stored(OSTURDAM_FILES - 1, OSTURDAM_VALUES));
+    for (int i = 0; i < OSTURDAM_ROOM; i++) {
+        uint64_t place = osturdam_record_place(last, (uint8_t)i);
+        EXPECT(OSTURDAM_STORED, stored(last, OSTURDAM_VALUES));
+        expect("a record's event", 7, all.records[place]);
+        expect("a record's first value", 0x1234, osturdam_word_at(all.records + place + OSTURDAM_RECORD_HEAD));
+    }
+    EXPECT(OSTURDAM_ROOM, osturdam_count_of(&all.unit, last));
+    expect("the error bit", 0, kept(OSTURDAM_STATUS_ERROR));
+    EXPECT(OSTURDAM_FILE_FULL, stored(last, OSTURDAM_VALUES));
+    expect("the error bit", 1, kept(OSTURDAM_STATUS_ERROR));
     EXPECT(OSTURDAM_NO_FILE, stored(OSTURDAM_FILES, OSTURDAM_VALUES));
     EXPECT(OSTURDAM_WRONG_VALUES, stored(0, OSTURDAM_VALUES + 1));
     EXPECT(OSTURDAM_WRONG_VALUES, stored(0, OSTURDAM_VALUES - 1));
+    EXPECT(OSTURDAM_NOTHING, kept(OSTURDAM_MEMORY));
+    EXPECT(OSTURDAM_DONE, ask(OTHER, 0x04, 0x60 + last, NULL, 0));
+    EXPECT(OSTURDAM_REMEMBERED, kept(OSTURDAM_MEMORY));
+    expect("the reply's master", OTHER, kept(OSTURDAM_MEMORY_MASTER));
+    expect("the reply's file", last, kept(OSTURDAM_MEMORY_FILE));
+    expect("the reply's dump", 1, kept(OSTURDAM_MEMORY_DUMP));
+    expect("the reply's quantity", (OSTURDAM_REPLY - 10) / OSTURDAM_RECORD_SLOT, kept(OSTURDAM_MEMORY_QUANTITY));
+    expect("the reply's more", 1, kept(OSTURDAM_MEMORY_MORE));
+}
+
+static void points(void)
+{
+    begin();
+    EXPECT(OSTURDAM_DONE, osturdam_take_word(&lent, 0x30, 0x8001));
+    expect("a word", 0x8001, osturdam_word_of(&all.unit, 0x30));
+    EXPECT(OSTURDAM_DONE, osturdam_take_pulses(&lent, 0x40, 0x1234));
+    expect("a count", 0x1234, osturdam_word_of(&all.unit, 0x40));
+    EXPECT(OSTURDAM_DONE, osturdam_take_value(&lent, OSTURDAM_CALCULATIONS - 1, 0x12345678));
+    expect("a value", 0x12345678, (int)osturdam_value_of(&all.unit, OSTURDAM_CALCULATIONS - 1));
+    EXPECT(OSTURDAM_NOT_VALID, osturdam_take_value(&lent, OSTURDAM_CALCULATIONS, 1));
+}
+
+static void clock_and_port(void)
+{
+    static const uint8_t damaged[] = { 1, 2, 3 };
+    begin();
+    expect("the configure bit", 1, kept(OSTURDAM_STATUS_CONFIGURE));
+    EXPECT(OSTURDAM_DONE, osturdam_wait(&lent, 2 * 86400000 + 3 * 3600000 + 4 * 60000 + 5 * 1000 + 6));
+    expect("the day", 3, kept(OSTURDAM_DAY));
+    expect("the hour", 3, kept(OSTURDAM_HOUR));
+    expect("the minute", 4, kept(OSTURDAM_MINUTE));
+    expect("the second", 5, kept(OSTURDAM_SECOND));
+    expect("the millisecond", 6, kept(OSTURDAM_MS));
+    EXPECT(OSTURDAM_SILENT_MS, kept(OSTURDAM_SILENCE));
+    EXPECT(OSTURDAM_SILENT, kept(OSTURDAM_MARK));
+    EXPECT(OSTURDAM_NOT_WHOLE, heard(damaged, sizeof damaged, sizeof buffer).outcome);
+    EXPECT(OSTURDAM_DAMAGED, kept(OSTURDAM_MARK));
+    EXPECT(OSTURDAM_DONE, ask(ONE, 0x00, 0x41, NULL, 0));
+    EXPECT(OSTURDAM_FINE, kept(OSTURDAM_MARK));
+    EXPECT(OSTURDAM_BROADCAST_DONE, to(LINE_BROADCAST, ONE, 0x20, 0x11, "\x40", 1).outcome);
+    expect("the broadcast bit", 1, kept(OSTURDAM_STATUS_BROADCAST));
 }
 
 /* Every limit of a configuration is taken by `begin`; one more is not. */
 static void configurations(void)
 {
-    static uint8_t block[OSTURDAM_BLOCK + 1];
+    static uint8_t block[OSTURDAM_BLOCK + 1], records[OSTURDAM_RECORDS + 1];
     begin();
-    EXPECT(OSTURDAM_DONE, osturdam_unit_elapsed(&config, &unit, 0));
-    EXPECT(OSTURDAM_DONE, osturdam_unit_set_value(&config, &unit, OSTURDAM_CALCULATIONS - 1, 1));
-    EXPECT(OSTURDAM_NOT_VALID, osturdam_unit_set_value(&config, &unit, OSTURDAM_CALCULATIONS, 1));
-    EXPECT(OSTURDAM_NOT_CONFIGURED,
-           osturdam_elapsed(config.unit, sizeof block, config.inputs, config.outputs, config.calculations, config.files, config.values,
-                            &unit.kept, block, sizeof block, unit.counts, 0));
+    EXPECT(OSTURDAM_DONE, osturdam_wait(&lent, 0));
+    expect("a valid configuration", 1, osturdam_is_valid(&config));
+    EXPECT(UNIT, osturdam_number_of(&all.unit.config));
+    EXPECT(OSTURDAM_BLOCK, osturdam_length_of(&all.unit.config));
+    EXPECT(OSTURDAM_VALUES, osturdam_values_of(&all.unit.config, 0));
+    lent.room = OSTURDAM_RECORDS - 1;
+    EXPECT(OSTURDAM_NOT_CONFIGURED, osturdam_wait(&lent, 0));
+    EXPECT(OSTURDAM_STORE_NOT_CONFIGURED, stored(0, OSTURDAM_VALUES));
+    lent.records = records;
+    lent.room = sizeof records;
+    EXPECT(OSTURDAM_DONE, osturdam_wait(&lent, 0));
+    lent.length = OSTURDAM_BLOCK - 1;
+    EXPECT(OSTURDAM_NOT_CONFIGURED, osturdam_wait(&lent, 0));
+    osturdam_put_length(&config, sizeof block);
+    start();
+    lent.block = block;
+    lent.length = sizeof block;
+    osturdam_begin(&lent, &config);
+    EXPECT(OSTURDAM_NOT_CONFIGURED, osturdam_wait(&lent, 0));
+    expect("a block too long", 0, osturdam_is_valid(&config));
+    configure();
     config.calculations[OSTURDAM_CALCULATIONS] = 1;
-    EXPECT(OSTURDAM_NOT_CONFIGURED, osturdam_unit_elapsed(&config, &unit, 0));
+    start();
+    EXPECT(OSTURDAM_NOT_CONFIGURED, osturdam_wait(&lent, 0));
+    expect("a calculation too many", 0, osturdam_is_valid(&config));
+    configure();
+    osturdam_equip_file(&config, 0, OSTURDAM_VALUES + 1);
+    start();
+    EXPECT(OSTURDAM_NOT_CONFIGURED, osturdam_wait(&lent, 0));
+    EXPECT(OSTURDAM_STORE_NOT_CONFIGURED, stored(0, OSTURDAM_VALUES + 1));
+    expect("a value too many", 0, osturdam_is_valid(&config));
     begin();
-    config.values[0] = OSTURDAM_VALUES + 1;
-    EXPECT(OSTURDAM_NOT_CONFIGURED, osturdam_unit_elapsed(&config, &unit, 0));
-    EXPECT(OSTURDAM_NOT_CONFIGURED, stored(0, OSTURDAM_VALUES + 1));
-    begin();
-    unit.counts[0] = OSTURDAM_ROOM + 1;
+    osturdam_put_count(&all.unit, 0, OSTURDAM_ROOM + 1);
     EXPECT(OSTURDAM_NOT_CONFIGURED, ask(ONE, 0x00, 0x41, NULL, 0));
+}
+
+/* A unit's memory begins with the number of its layout, and one with another is turned away. */
+static void layouts(void)
+{
+    begin();
+    EXPECT(OSTURDAM_LAYOUT, osturdam_layout());
+    EXPECT(OSTURDAM_LAYOUT, osturdam_word_at(all.unit.layout));
+    osturdam_word_to(all.unit.layout, OSTURDAM_LAYOUT + 1);
+    EXPECT(OSTURDAM_NOT_CONFIGURED, osturdam_wait(&lent, 0));
+    EXPECT(OSTURDAM_STORE_NOT_CONFIGURED, stored(0, OSTURDAM_VALUES));
+    osturdam_word_to(all.unit.layout, OSTURDAM_LAYOUT);
+    EXPECT(OSTURDAM_DONE, osturdam_wait(&lent, 0));
 }
 
 int main(void)
 {
     stretches();
     selects_and_writes();
+    blocks();
     records();
+    points();
+    clock_and_port();
     configurations();
+    layouts();
     return failed;
 }

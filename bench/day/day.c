@@ -23,22 +23,25 @@ static const char *const names[KINDS] = { "00", "0Ah", "03/80h", "03/00", "04", 
                                           "another unit's", "broadcast", "damaged" };
 static size_t most[KINDS][3];
 
+static void range(void (*equip_one)(struct osturdam_config *, uint8_t), int from, int many)
+{
+    for (int i = from; i < from + many; i++)
+        equip_one(&u.config, i);
+}
+
 // A pole-top control: 8 two-bit and 16 simple status, 8 accumulators, 40 analogs, 30 calculations, 8 files.
 static void equip(void)
 {
-    struct osturdam_config *c = &u.config;
-    c->unit = UNIT;
-    c->length = 200;
-    memset(c->inputs, 1, 8);
-    memset(c->inputs + 0x30, 1, 16);
-    memset(c->inputs + 0x40, 1, 8);
-    memset(c->inputs + 0x80, 1, 40);
-    memset(c->outputs, 1, 16);
-    memset(c->calculations, 1, 30);
-    for (int f = 0; f < 8; f++) {
-        c->files[f] = 1;
-        c->values[f] = 2 * f + 2;
-    }
+    osturdam_put_number(&u.config, UNIT);
+    osturdam_put_length(&u.config, 200);
+    range(osturdam_equip_input, 0x00, 8);
+    range(osturdam_equip_input, 0x30, 16);
+    range(osturdam_equip_input, 0x40, 8);
+    range(osturdam_equip_input, 0x80, 40);
+    range(osturdam_equip_output, 0, 16);
+    range(osturdam_equip_calculation, 0, 30);
+    for (int f = 0; f < 8; f++)
+        osturdam_equip_file(&u.config, f, 2 * f + 2);
     fresh(&u);
 }
 
@@ -48,7 +51,7 @@ static void store_one(void)
     unsigned file = below(8);
     for (int i = 0; i < OSTURDAM_VALUES; i++)
         given[i] = below(65536);
-    store_record(&u, file, below(256), given, u.config.values[file], 0);
+    store_record(&u, file, below(256), given, osturdam_values_of(&u.config, file), 0);
 }
 
 static void local(void)
@@ -167,8 +170,10 @@ static enum kind next(enum kind before)
 static __attribute__((noinline)) void measure(const uint8_t *s, size_t n, size_t deepest[3])
 {
     static uint8_t buffer[OSTURDAM_REPLY];
-    STACK(deepest[0], osturdam_unit_stretch(&u.config, &u.library, s, n, buffer, sizeof buffer));
-    STACK(deepest[1], plain_stretch(&u.config, &u.plain, s, n, buffer, sizeof buffer));
+    struct osturdam_heard heard = { .chars = s, .count = n, .buffer = buffer, .room = sizeof buffer };
+    struct osturdam_turned turned;
+    STACK(deepest[0], osturdam_hear(&u.lent, &heard, &turned));
+    STACK(deepest[1], plain_stretch(&u.plain_config, &u.plain, s, n, buffer, sizeof buffer));
     STACK(deepest[2], rust_stretch(u.rust, s, n, buffer, sizeof buffer));
 }
 

@@ -6,11 +6,12 @@
 
 #include <stdbool.h>
 
-enum { HEAD = 7, HOLD = 5000, SILENT = 60000, LAST_MASTER = 31, DATA = 511 };
+enum { HEAD = 7, LAST_MASTER = 31, DATA = OSTURDAM_REPLY - HEAD - 2 };
 
-typedef struct osturdam_config Config;
-typedef struct osturdam_unit Unit;
-typedef struct osturdam_kept Kept;
+typedef struct plain_config Config;
+typedef struct plain_unit Unit;
+typedef struct plain_kept Kept;
+typedef struct plain_turned Turned;
 
 // The request's data, the reply's data behind the head of the buffer, and what the outputs do.
 typedef struct {
@@ -28,7 +29,7 @@ typedef struct {
 int plain_serve(Request *r);
 int plain_broadcast(Request *r);
 
-// The six characters of a record before its values.
+// The characters of a record before its values.
 void plain_stamp(const Kept *k, uint8_t event, uint8_t *record);
 
 static inline unsigned word_at(const uint8_t *s)
@@ -49,7 +50,7 @@ static inline bool accumulator(const Config *c, uint8_t input)
 
 static inline unsigned record_size(const Config *c, unsigned file)
 {
-    return 6 + 2 * c->values[file];
+    return OSTURDAM_RECORD_HEAD + 2 * c->values[file];
 }
 
 static inline unsigned most_sent(const Config *c, unsigned file, bool dump)
@@ -59,7 +60,7 @@ static inline unsigned most_sent(const Config *c, unsigned file, bool dump)
 
 static inline uint8_t *file_start(Unit *u, unsigned file)
 {
-    return u->area + file * (OSTURDAM_AREA / OSTURDAM_FILES);
+    return u->records + file * OSTURDAM_ROOM * OSTURDAM_RECORD_SLOT;
 }
 
 #endif

@@ -3,10 +3,9 @@
 
 #include <stdio.h>
 
-// The library's and plain C's are the structs of include/osturdam.h.
-static void line(const char *what, size_t ours, size_t rust)
+static void line(const char *what, size_t library, size_t plain, size_t rust)
 {
-    printf("| %s | %zu | %zu | %zu | %.2f |\n", what, ours, ours, rust, (double)ours / rust);
+    printf("| %s | %zu | %zu | %zu | %.2f |\n", what, library, plain, rust, (double)library / rust);
 }
 
 int main(void)
@@ -16,9 +15,9 @@ int main(void)
     size_t none = rust_bytes(u.rust, &config);
     for (int file = 0; file < OSTURDAM_FILES; file++)
         store(file, OSTURDAM_ROOM);
-    line("a configuration", sizeof(struct osturdam_config), config);
-    line("a unit, what is to be set aside for it", sizeof(struct osturdam_unit), rust_bytes(u.rust, &config));
-    printf("| its kept numbers | %zu | %zu | in the unit | |\n", sizeof(struct osturdam_kept), sizeof(struct osturdam_kept));
-    printf("\nThe independent program's unit grows to that from %zu bytes, with no record.\n", none);
+    size_t all = rust_bytes(u.rust, &config);
+    line("a unit with its configuration, what is to be set aside for it", sizeof u.library, sizeof u.plain + sizeof u.plain_config, all + config);
+    line("its configuration", sizeof u.config, sizeof u.plain_config, config);
+    printf("\nThe independent program's unit grows to that from %zu bytes, with no record.\n", none + config);
     return 0;
 }

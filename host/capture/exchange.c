@@ -9,7 +9,8 @@
 #include "steps.h"
 
 static struct osturdam_config config;
-static struct osturdam_unit unit;
+static struct osturdam_together all;
+static struct osturdam_lent lent;
 
 static void part(char kind, const uint8_t *chars, size_t many)
 {
@@ -25,11 +26,11 @@ static void line(char kind, const uint8_t *chars, size_t many)
 }
 
 /* A local event that the unit does not take is a fault of this program. */
-static void must(uint8_t answer, const char *what)
+static void must(int answer, const char *what)
 {
     if (answer == 0)
         return;
-    fprintf(stderr, "exchange: %s answers %u\n", what, answer);
+    fprintf(stderr, "exchange: %s answers %d\n", what, answer);
     exit(1);
 }
 
@@ -66,7 +67,7 @@ static void pass(uint32_t ms)
 {
     if (ms == 0)
         return;
-    must(osturdam_unit_elapsed(&config, &unit, ms), "an elapsed time");
+    must(osturdam_wait(&lent, ms), "an elapsed time");
     printf("T\t%u\n", ms);
 }
 
@@ -78,35 +79,37 @@ static void run(const struct step *steps, size_t many)
         if (steps[i].what)
             printf("W\t%s\n", steps[i].what);
         size_t heard = lay_out(&steps[i], frame);
-        struct osturdam_turned turned = osturdam_unit_stretch(&config, &unit, frame, heard, reply, sizeof reply);
+        struct osturdam_heard stretch = {.chars = frame, .count = heard, .buffer = reply, .room = sizeof reply};
+        struct osturdam_turned turned;
+        osturdam_hear(&lent, &stretch, &turned);
         part('M', frame, heard);
-        printf("\t%u\n", turned.outcome);
+        printf("\t%u\n", (unsigned)turned.outcome);
         if (turned.sent > 0)
             line('U', reply, turned.sent);
     }
 }
 
-static void equip(uint8_t *set, const uint8_t *numbers, size_t many)
+static void equip(void (*take)(struct osturdam_config *, uint8_t), const uint8_t *numbers, size_t many)
 {
     for (size_t i = 0; i < many; i++)
-        set[numbers[i]] = 1;
+        take(&config, numbers[i]);
 }
 
 static void configure(void)
 {
-    config.unit = UNIT;
-    config.length = 300;
-    equip(config.inputs, inputs, sizeof inputs);
-    equip(config.outputs, outputs, sizeof outputs);
-    equip(config.calculations, calculations, sizeof calculations);
+    osturdam_put_number(&config, UNIT);
+    osturdam_put_length(&config, 300);
+    equip(osturdam_equip_input, inputs, sizeof inputs);
+    equip(osturdam_equip_output, outputs, sizeof outputs);
+    equip(osturdam_equip_calculation, calculations, sizeof calculations);
     line('I', inputs, sizeof inputs);
     line('C', calculations, sizeof calculations);
     for (size_t i = 0; i < sizeof files; i++) {
-        config.files[files[i]] = 1;
-        config.values[files[i]] = values[i];
+        osturdam_equip_file(&config, files[i], values[i]);
         printf("F\t%u\t%u\n", files[i], values[i]);
     }
-    osturdam_unit_fresh(&config, &unit);
+    lent = osturdam_lend(&all, &config);
+    osturdam_begin(&lent, &config);
 }
 
 /* Words and values that show every character and the sign; accumulators are counted up. */
@@ -114,12 +117,12 @@ static void measure(void)
 {
     for (size_t i = 0; i < sizeof inputs; i++) {
         if (inputs[i] >= 0x40 && inputs[i] < 0x60)
-            must(osturdam_unit_pulses(&config, &unit, inputs[i], words[i]), "a pulse count");
+            must(osturdam_take_pulses(&lent, inputs[i], words[i]), "a pulse count");
         else
-            must(osturdam_unit_set_word(&config, &unit, inputs[i], words[i]), "a word");
+            must(osturdam_take_word(&lent, inputs[i], words[i]), "a word");
     }
     for (size_t i = 0; i < sizeof calculations; i++)
-        must(osturdam_unit_set_value(&config, &unit, calculations[i], results[i]), "a value");
+        must(osturdam_take_value(&lent, calculations[i], results[i]), "a value");
 }
 
 /* Records of every file but the last, which stays empty; time passes from one to the next. */
@@ -130,7 +133,7 @@ static void record(void)
         for (size_t n = 0; n < held[i]; n++) {
             for (size_t v = 0; v < values[i]; v++)
                 given[v] = (uint16_t)(0x8001 + 0x1357 * n + 0x0111 * v);
-            must(osturdam_unit_store_record(&config, &unit, files[i], (uint8_t)(0x11 * n + i), given, values[i]), "a record");
+            must(osturdam_take_record(&lent, files[i], (uint8_t)(0x11 * n + i), given, values[i]), "a record");
             pass(37501);
         }
     }

@@ -1,17 +1,74 @@
-//! Links the static library of the proved unit, which lies in the folder BOARD_LIB.
+//! Links the static library of the proved unit, which lies in the folder BOARD_LIB, and takes the numbers of the C header over, so that
+//! they stand once.
 
 use std::env;
+use std::fmt::Write;
+use std::fs;
 use std::path::Path;
 
+/// A line such as `    OSTURDAM_FRAME = 136,  /* ... */` as name and number.
+fn constant(line: &str) -> Option<(&str, usize)> {
+    let (name, rest) = line.trim().strip_prefix("OSTURDAM_")?.split_once(" = ")?;
+    let number = rest.split(|c: char| !c.is_ascii_alphanumeric()).next()?;
+    let parsed = match number.strip_prefix("0x") {
+        Some(digits) => usize::from_str_radix(digits, 16),
+        None => number.parse(),
+    };
+    Some((name, parsed.ok()?))
+}
+
+/// The constants of an enum, or of all enums.
+fn constants<'a>(header: &'a str, of: Option<&str>) -> Vec<(&'a str, usize)> {
+    let part = match of {
+        Some(name) => header.split(name).nth(1).and_then(|x| x.split('}').next()),
+        None => Some(header),
+    };
+    let lines = part.expect("the header has the enum").lines();
+    lines.filter_map(constant).collect()
+}
+
+/// The numbers as `usize`, the names of the kept numbers in their order, and the names of a unit's regions by their places.
+fn written(header: &str) -> String {
+    let mut made = String::new();
+    for (name, number) in constants(header, None) {
+        writeln!(
+            made,
+            "#[allow(dead_code)]\npub const {name}: usize = {number};"
+        )
+        .unwrap();
+    }
+    let kept = constants(header, Some("enum osturdam_kept {"));
+    let names = kept.iter().map(|x| x.0.to_lowercase());
+    let names: Vec<String> = names.filter(|name| name != "kept").collect();
+    writeln!(made, "pub const KEPT_NAMES: [&str; KEPT] = {names:?};").unwrap();
+    let mut regions: Vec<(usize, String)> = constants(header, None)
+        .iter()
+        .filter_map(|(name, place)| Some((*place, name.strip_prefix("AT_")?.to_lowercase())))
+        .collect();
+    regions.sort_by_key(|x| x.0);
+    writeln!(
+        made,
+        "pub const REGIONS: [(usize, &str); {}] = {regions:?};",
+        regions.len()
+    )
+    .unwrap();
+    made
+}
+
 fn main() {
-    let root = env::var("CARGO_MANIFEST_DIR").expect("cargo names the package's folder");
-    let folder = env::var("BOARD_LIB").unwrap_or_else(|_| "../../target/staticlib".to_string());
-    let folder = Path::new(&root).join(folder);
+    let root = Path::new(env!("CARGO_MANIFEST_DIR")).join("../..");
+    let header = root.join("include/osturdam.h");
+    let folder = env::var("BOARD_LIB").map_or(root.join("target/staticlib"), Into::into);
     println!("cargo:rerun-if-env-changed=BOARD_LIB");
+    println!("cargo:rerun-if-changed={}", header.display());
     println!(
         "cargo:rerun-if-changed={}",
         folder.join("libboard.a").display()
     );
     println!("cargo:rustc-link-search=native={}", folder.display());
     println!("cargo:rustc-link-lib=static=board");
+
+    let text = fs::read_to_string(&header).expect("include/osturdam.h is read");
+    let place = Path::new(&env::var("OUT_DIR").expect("cargo tells OUT_DIR")).join("header.rs");
+    fs::write(place, written(&text)).expect("header.rs is written");
 }

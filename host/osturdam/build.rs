@@ -8,23 +8,12 @@ use std::path::Path;
 /// A line such as `    OSTURDAM_FRAME = 136,  /* ... */` as name and number.
 fn constant(line: &str) -> Option<(&str, u32)> {
     let (name, rest) = line.trim().strip_prefix("OSTURDAM_")?.split_once(" = ")?;
-    let digits = rest.split(|c: char| !c.is_ascii_digit()).next()?;
-    Some((name, digits.parse().ok()?))
-}
-
-/// How many numbers `struct osturdam_kept` has.
-fn kept_numbers(header: &str) -> Option<usize> {
-    let (_, rest) = header.split_once("struct osturdam_kept {")?;
-    let (fields, _) = rest.split_once("\n};")?;
-    let declared = fields
-        .lines()
-        .filter_map(|line| line.trim().strip_prefix("uint16_t "));
-    Some(
-        declared
-            .filter_map(|line| line.split(';').next())
-            .map(|names| names.split(',').count())
-            .sum(),
-    )
+    let number = rest.split(|c: char| !c.is_ascii_alphanumeric()).next()?;
+    let parsed = match number.strip_prefix("0x") {
+        Some(digits) => u32::from_str_radix(digits, 16),
+        None => number.parse(),
+    };
+    Some((name, parsed.ok()?))
 }
 
 fn main() {
@@ -49,8 +38,6 @@ fn main() {
         )
         .expect("a string is written to");
     }
-    let kept = kept_numbers(&text).expect("include/osturdam.h has osturdam_kept");
-    writeln!(made, "pub const KEPT: u32 = {kept};").expect("a string is written to");
     let place = Path::new(&env::var("OUT_DIR").expect("cargo tells OUT_DIR")).join("header.rs");
     fs::write(place, made).expect("header.rs is written");
 }

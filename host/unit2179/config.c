@@ -7,16 +7,6 @@
 
 #include "text.h"
 
-const char config_syntax[] =
-    "Configuration lines (a number with an h behind it is hexadecimal, any other decimal; # begins a comment):\n"
-    "  unit NUMBER            0 to 7FEh; the one line that must be there\n"
-    "  inputs LIST            equipped inputs, e.g. 30h 40h-43h; two-bit status 00-1Fh, status 30h-3Fh,\n"
-    "                         accumulators 40h-5Fh, analogs 80h-FFh\n"
-    "  outputs LIST           equipped control outputs, 00 to FFh\n"
-    "  calculations LIST      equipped special calculations, 00 to 7Fh\n"
-    "  file NUMBER VALUES     a history file, 0 to 31, whose records have 1 to 16 values\n"
-    "  block LENGTH           characters of the parameter block, 0 to 512\n";
-
 enum { UNIT_MOST = 0x7FE, NUMBER_MOST = OSTURDAM_INPUTS - 1 };
 
 struct reading {
@@ -55,7 +45,8 @@ static bool range_of(char *word, uint32_t *first, uint32_t *last)
     return good;
 }
 
-static void equip(struct reading *r, char **words, size_t many, uint8_t *table, bool (*fits)(uint32_t))
+static void equip(struct reading *r, char **words, size_t many, bool (*fits)(uint32_t),
+                  void (*take)(struct osturdam_config *, uint8_t))
 {
     if (many < 2)
         WRONG(r, "%s: no number is given", words[0]);
@@ -66,7 +57,7 @@ static void equip(struct reading *r, char **words, size_t many, uint8_t *table, 
             continue;
         }
         while (first <= last && fits(first))
-            table[first++] = 1;
+            take(r->config, (uint8_t)first++);
         if (first <= last)
             WRONG(r, "%s: none can have the number %02Xh", words[0], (unsigned)first);
     }
@@ -74,17 +65,17 @@ static void equip(struct reading *r, char **words, size_t many, uint8_t *table, 
 
 static void take_inputs(struct reading *r, char **words, size_t many)
 {
-    equip(r, words, many, r->config->inputs, input_fits);
+    equip(r, words, many, input_fits, osturdam_equip_input);
 }
 
 static void take_outputs(struct reading *r, char **words, size_t many)
 {
-    equip(r, words, many, r->config->outputs, any_fits);
+    equip(r, words, many, any_fits, osturdam_equip_output);
 }
 
 static void take_calculations(struct reading *r, char **words, size_t many)
 {
-    equip(r, words, many, r->config->calculations, calculation_fits);
+    equip(r, words, many, calculation_fits, osturdam_equip_calculation);
 }
 
 /* A line of one number that may stand once. */
@@ -101,14 +92,14 @@ static void take_unit(struct reading *r, char **words, size_t many)
 {
     uint32_t number = 0;
     take_single(r, words, many, UNIT_MOST, &r->unit, &number);
-    r->config->unit = (uint16_t)number;
+    osturdam_put_number(r->config, (uint16_t)number);
 }
 
 static void take_block(struct reading *r, char **words, size_t many)
 {
     uint32_t length = 0;
     take_single(r, words, many, OSTURDAM_BLOCK, &r->block, &length);
-    r->config->length = length;
+    osturdam_put_length(r->config, (uint16_t)length);
 }
 
 static void take_file(struct reading *r, char **words, size_t many)
@@ -118,10 +109,9 @@ static void take_file(struct reading *r, char **words, size_t many)
         WRONG(r, "file takes its number, 0 to %d, and how many values its records have, 1 to %d", OSTURDAM_FILES - 1, OSTURDAM_VALUES);
         return;
     }
-    if (r->config->files[file])
+    if (osturdam_has_file(r->config, (uint8_t)file))
         WRONG(r, "file %u is given a second time", (unsigned)file);
-    r->config->files[file] = 1;
-    r->config->values[file] = (uint8_t)values;
+    osturdam_equip_file(r->config, (uint8_t)file, (uint8_t)values);
 }
 
 static const struct {
@@ -184,7 +174,20 @@ bool config_read(const char *path, struct osturdam_config *config)
 void config_bench(struct osturdam_config *config)
 {
     memset(config, 0, sizeof *config);
-    config->unit = 1234;
-    config->inputs[0x30] = 1;
-    config->inputs[0x40] = 1;
+    osturdam_put_number(config, 1234);
+    osturdam_equip_input(config, 0x30);
+    osturdam_equip_input(config, 0x40);
+}
+
+void config_help(void)
+{
+    printf("Configuration lines (a number with an h behind it is hexadecimal, any other decimal; # begins a comment):\n"
+           "  unit NUMBER            0 to %Xh; the one line that must be there\n"
+           "  inputs LIST            equipped inputs, e.g. 30h 40h-43h; two-bit status 00-1Fh, status 30h-3Fh,\n"
+           "                         accumulators 40h-5Fh, analogs 80h-FFh\n"
+           "  outputs LIST           equipped control outputs, 00 to %Xh\n"
+           "  calculations LIST      equipped special calculations, 00 to %Xh\n"
+           "  file NUMBER VALUES     a history file, 0 to %d, whose records have 1 to %d values\n"
+           "  block LENGTH           characters of the parameter block, 0 to %d\n",
+           UNIT_MOST, NUMBER_MOST, OSTURDAM_CALCULATIONS - 1, OSTURDAM_FILES - 1, OSTURDAM_VALUES, OSTURDAM_BLOCK);
 }

@@ -12,7 +12,7 @@ void config_bench(struct osturdam_config *config);
 /* Reads a file; every line that is wrong is told on standard error, and then the answer is false. */
 bool config_read(const char *path, struct osturdam_config *config);
 
-/* The syntax, for --help. */
-extern const char config_syntax[];
+/* Prints the syntax. */
+void config_help(void);
 
 #endif

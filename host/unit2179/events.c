@@ -2,51 +2,47 @@
 
 #include <errno.h>
 #include <fcntl.h>
+#include <stdio.h>
 #include <string.h>
 #include <sys/stat.h>
 #include <unistd.h>
 
-const char event_syntax[] =
-    "Event lines, with numbers as in the configuration:\n"
-    "  word INPUT WORD               a status or analog word is now this, e.g. word 30h 8001h\n"
-    "  pulse INPUT COUNT             so many pulses were counted, e.g. pulse 40h 12\n"
-    "  value CALCULATION PATTERN     a value of 32 bits, e.g. value 05h 3F800000h\n"
-    "  record FILE TYPE VALUE...     a record is stored under the unit's clock, e.g. record 2 17 1234h 5678h\n";
-
-static uint8_t set_word(const struct event *e, const struct osturdam_config *c, struct osturdam_unit *u)
+static unsigned set_word(const struct event *e, const struct osturdam_lent *l)
 {
-    return osturdam_unit_set_word(c, u, (uint8_t)e->figures[0], (uint16_t)e->figures[1]);
+    return osturdam_take_word(l, (uint8_t)e->figures[0], (uint16_t)e->figures[1]);
 }
 
-static uint8_t pulses(const struct event *e, const struct osturdam_config *c, struct osturdam_unit *u)
+static unsigned pulses(const struct event *e, const struct osturdam_lent *l)
 {
-    return osturdam_unit_pulses(c, u, (uint8_t)e->figures[0], (uint16_t)e->figures[1]);
+    return osturdam_take_pulses(l, (uint8_t)e->figures[0], (uint16_t)e->figures[1]);
 }
 
-static uint8_t set_value(const struct event *e, const struct osturdam_config *c, struct osturdam_unit *u)
+static unsigned set_value(const struct event *e, const struct osturdam_lent *l)
 {
-    return osturdam_unit_set_value(c, u, (uint8_t)e->figures[0], e->figures[1]);
+    return osturdam_take_value(l, (uint8_t)e->figures[0], e->figures[1]);
 }
 
-static uint8_t store_record(const struct event *e, const struct osturdam_config *c, struct osturdam_unit *u)
+static unsigned store_record(const struct event *e, const struct osturdam_lent *l)
 {
     uint16_t values[OSTURDAM_VALUES];
     for (size_t i = 2; i < e->many; i++)
         values[i - 2] = (uint16_t)e->figures[i];
-    return osturdam_unit_store_record(c, u, (uint8_t)e->figures[0], (uint8_t)e->figures[1], values, e->many - 2);
+    return osturdam_take_record(l, (uint8_t)e->figures[0], (uint8_t)e->figures[1], values, e->many - 2);
 }
+
+enum { INPUT_MOST = OSTURDAM_INPUTS - 1, FILE_MOST = OSTURDAM_FILES - 1 };
 
 static const struct {
     const char *word, *takes;
     size_t least, most; /* figures */
     uint32_t limits[3]; /* of the first, the second and each further figure */
-    uint8_t (*apply)(const struct event *e, const struct osturdam_config *c, struct osturdam_unit *u);
+    unsigned (*apply)(const struct event *e, const struct osturdam_lent *l);
 } kinds[] = {
-    {"word", "an input, 0 to FFh, and a word, 0 to FFFFh", 2, 2, {0xFF, 0xFFFF, 0}, set_word},
-    {"pulse", "an input, 0 to FFh, and a count, 0 to 65535", 2, 2, {0xFF, 0xFFFF, 0}, pulses},
-    {"value", "a calculation, 0 to FFh, and a pattern of 32 bits", 2, 2, {0xFF, 0xFFFFFFFF, 0}, set_value},
-    {"record", "a file, 0 to 31, an event type, 0 to FFh, and 1 to 16 values, 0 to FFFFh", 3, EVENT_FIGURES,
-     {OSTURDAM_FILES - 1, 0xFF, 0xFFFF}, store_record},
+    {"word", "an input, 0 to FFh, and a word, 0 to FFFFh", 2, 2, {INPUT_MOST, 0xFFFF, 0}, set_word},
+    {"pulse", "an input, 0 to FFh, and a count, 0 to 65535", 2, 2, {INPUT_MOST, 0xFFFF, 0}, pulses},
+    {"value", "a calculation, 0 to FFh, and a pattern of 32 bits", 2, 2, {INPUT_MOST, 0xFFFFFFFF, 0}, set_value},
+    {"record", "the number of a file, an event type, 0 to FFh, and values, 0 to FFFFh, as many as its records have", 3, EVENT_FIGURES,
+     {FILE_MOST, 0xFF, 0xFFFF}, store_record},
 };
 
 enum { KINDS = sizeof kinds / sizeof *kinds };
@@ -149,9 +145,9 @@ bool events_read(struct events *e, bool (*take)(void *context, const struct even
     return e->length == 0 || end_line(e, take, context);
 }
 
-uint8_t event_apply(const struct event *event, const struct osturdam_config *config, struct osturdam_unit *unit)
+unsigned event_apply(const struct event *event, const struct osturdam_lent *lent)
 {
-    return kinds[event->kind].apply(event, config, unit);
+    return kinds[event->kind].apply(event, lent);
 }
 
 const char *event_kind(const struct event *event)
@@ -159,7 +155,7 @@ const char *event_kind(const struct event *event)
     return kinds[event->kind].word;
 }
 
-const char *event_refusal(const struct event *event, uint8_t outcome)
+const char *event_refusal(const struct event *event, unsigned outcome)
 {
     if (kinds[event->kind].apply != store_record)
         return "that number is not equipped, or is of another kind";
@@ -171,4 +167,15 @@ const char *event_refusal(const struct event *event, uint8_t outcome)
     default:
         return "records of that file have another number of values";
     }
+}
+
+void events_help(void)
+{
+    printf("Event lines, with numbers as in the configuration:\n"
+           "  word INPUT WORD               a status or analog word is now this, e.g. word 30h 8001h\n"
+           "  pulse INPUT COUNT             so many pulses were counted, 0 to 65535, e.g. pulse 40h 12\n"
+           "  value CALCULATION PATTERN     a value of 32 bits, e.g. value 05h 3F800000h\n"
+           "  record FILE TYPE VALUE...     a record of 1 to %d values, each 0 to FFFFh, is stored under the unit's clock;\n"
+           "                                the type is 0 to FFh, e.g. record 2 17 1234h 5678h\n",
+           OSTURDAM_VALUES);
 }

@@ -32,14 +32,15 @@ bool events_open(struct events *events, const char *path);
  * `take` answers false, and answers that. */
 bool events_read(struct events *events, bool (*take)(void *context, const struct event *event), void *context);
 
-/* Has the unit hear of an event. Answers the library's number. */
-uint8_t event_apply(const struct event *event, const struct osturdam_config *config, struct osturdam_unit *unit);
+/* Has the unit hear of an event. Answers an outcome, or for a record how storing it ended. */
+unsigned event_apply(const struct event *event, const struct osturdam_lent *lent);
 
 const char *event_kind(const struct event *event);
 
 /* What a refusal means, in words. */
-const char *event_refusal(const struct event *event, uint8_t outcome);
+const char *event_refusal(const struct event *event, unsigned outcome);
 
-extern const char event_syntax[];
+/* Prints the syntax of event lines. */
+void events_help(void);
 
 #endif

@@ -1,62 +1,47 @@
 #include "image.h"
 
+#include <stdarg.h>
 #include <stdbool.h>
+#include <stdio.h>
 #include <string.h>
 
-/* One walk over the parts serves writing and reading, so that the two cannot differ. */
-struct walk {
-    uint8_t *at;
-    bool reading;
-};
+/* Each part's name, and where it lies. */
+#define PARTS(PART)                                                                                                     \
+    PART(layout, unit.layout) PART(config.number, unit.config.number) PART(config.length, unit.config.length)           \
+    PART(config.inputs, unit.config.inputs) PART(config.outputs, unit.config.outputs)                                   \
+    PART(config.calculations, unit.config.calculations) PART(config.files, unit.config.files)                           \
+    PART(config.values, unit.config.values) PART(numbers, unit.numbers) PART(words, unit.words)                         \
+    PART(results, unit.results) PART(fixed, unit.fixed) PART(counts, unit.counts) PART(block, block) PART(records, records)
 
-static void walk_chars(struct walk *w, uint8_t *chars, size_t many)
+#define LENGTH(path) sizeof(((struct osturdam_together *)0)->path)
+#define ROW(name, path) {#name, offsetof(struct osturdam_together, path), LENGTH(path)},
+#define PLUS_LENGTH(name, path) +LENGTH(path)
+#define AND_NAMED(name, path) &&sizeof #name <= IMAGE_NAME
+
+static const struct part {
+    const char *name;
+    size_t at, many;
+} parts[] = {PARTS(ROW)};
+
+_Static_assert(sizeof parts / sizeof *parts == IMAGE_PARTS, "the image has room for each part");
+_Static_assert(0 PARTS(PLUS_LENGTH) == IMAGE_CHARS, "the parts are all of a unit");
+_Static_assert(1 PARTS(AND_NAMED), "a name and a 0 behind it fit");
+
+static struct osturdam_together whole; /* 40 KB, which a small stack may not have */
+
+static uint64_t number_at(const uint8_t *chars, size_t width)
 {
-    memcpy(w->reading ? chars : w->at, w->reading ? w->at : chars, many);
-    w->at += many;
+    uint64_t number = 0;
+    for (size_t i = 0; i < width; i++)
+        number |= (uint64_t)chars[i] << 8 * i;
+    return number;
 }
 
-static uint64_t walk_number(struct walk *w, uint64_t number, size_t width)
+static uint8_t *put_number(uint8_t *chars, uint64_t number, size_t width)
 {
-    uint64_t read = 0;
-    for (size_t i = 0; i < width; i++) {
-        if (!w->reading)
-            w->at[i] = (uint8_t)(number >> 8 * i);
-        read |= (uint64_t)w->at[i] << 8 * i;
-    }
-    w->at += width;
-    return read;
-}
-
-static void walk_words(struct walk *w, uint16_t *words, size_t many)
-{
-    for (size_t i = 0; i < many; i++)
-        words[i] = (uint16_t)walk_number(w, words[i], 2);
-}
-
-static void walk_config(struct walk *w, struct osturdam_config *c)
-{
-    c->unit = (uint16_t)walk_number(w, c->unit, 2);
-    c->length = (size_t)walk_number(w, c->length, 2);
-    walk_chars(w, c->inputs, sizeof c->inputs);
-    walk_chars(w, c->outputs, sizeof c->outputs);
-    walk_chars(w, c->calculations, sizeof c->calculations);
-    walk_chars(w, c->files, sizeof c->files);
-    walk_chars(w, c->values, sizeof c->values);
-}
-
-static void walk_unit(struct walk *w, struct osturdam_unit *u)
-{
-    uint16_t kept[IMAGE_KEPT];
-    memcpy(kept, &u->kept, sizeof kept);
-    walk_words(w, kept, IMAGE_KEPT);
-    memcpy(&u->kept, kept, sizeof kept);
-    walk_words(w, u->words, OSTURDAM_INPUTS);
-    for (size_t i = 0; i < OSTURDAM_CALCULATIONS; i++)
-        u->results[i] = (uint32_t)walk_number(w, u->results[i], 4);
-    walk_chars(w, u->fixed, sizeof u->fixed);
-    walk_chars(w, u->block, sizeof u->block);
-    walk_chars(w, u->area, sizeof u->area);
-    walk_chars(w, u->counts, sizeof u->counts);
+    for (size_t i = 0; i < width; i++)
+        chars[i] = (uint8_t)(number >> 8 * i);
+    return chars + width;
 }
 
 /* FNV-1a of 64 bits: any one changed character changes it. */
@@ -68,41 +53,125 @@ static uint64_t check_of(const uint8_t *chars, size_t many)
     return check;
 }
 
-static void head_write(uint8_t *image, const struct osturdam_config *config)
+static const char title[8] = {'u', 'n', 'i', 't', '2', '1', '7', '9'};
+
+void image_write(uint8_t image[IMAGE], const struct osturdam_together *all)
 {
-    struct osturdam_config copy = *config;
-    struct walk w = {image, false};
-    uint8_t name[8] = {'u', 'n', 'i', 't', '2', '1', '7', '9'};
-    walk_chars(&w, name, sizeof name);
-    walk_number(&w, IMAGE_VERSION, 2);
-    walk_number(&w, IMAGE, 4);
-    walk_config(&w, &copy);
+    memset(image, 0, IMAGE);
+    memcpy(image, title, sizeof title);
+    uint8_t *at = put_number(put_number(image + sizeof title, IMAGE_VERSION, 2), IMAGE, 4);
+    for (const struct part *p = parts; p < parts + IMAGE_PARTS; p++) {
+        memcpy(at, p->name, strlen(p->name));
+        at = put_number(at + IMAGE_NAME, p->many, 4);
+        memcpy(at, (const uint8_t *)all + p->at, p->many);
+        at += p->many;
+    }
+    put_number(at, check_of(image, IMAGE - IMAGE_CHECK), IMAGE_CHECK);
 }
 
-void image_write(uint8_t image[IMAGE], const struct osturdam_config *config, const struct osturdam_unit *unit)
+struct reading {
+    const uint8_t *at, *end;
+    bool taken[IMAGE_PARTS];
+};
+
+/* What is wrong, until the next. */
+static const char *told(const char *format, ...)
 {
-    static struct osturdam_unit copy; /* 40 KB, which a small stack may not have */
-    copy = *unit;
-    head_write(image, config);
-    struct walk w = {image + IMAGE_TITLE + IMAGE_CONFIG, false};
-    walk_unit(&w, &copy);
-    walk_number(&w, check_of(image, IMAGE - IMAGE_CHECK), IMAGE_CHECK);
+    static char text[96];
+    va_list given;
+    va_start(given, format);
+    vsnprintf(text, sizeof text, format, given);
+    va_end(given);
+    return text;
 }
 
-const char *image_read(const uint8_t image[IMAGE], const struct osturdam_config *config, struct osturdam_unit *unit)
+/* How much of a name is text. */
+static int text_in(const char *name)
 {
-    static uint8_t copy[IMAGE];
-    uint8_t head[IMAGE_TITLE + IMAGE_CONFIG];
-    memcpy(copy, image, IMAGE);
-    head_write(head, config);
-    if (memcmp(head, copy, IMAGE_TITLE) != 0)
-        return "it is no state file of this version";
-    struct walk check = {copy + IMAGE - IMAGE_CHECK, true};
-    if (walk_number(&check, 0, IMAGE_CHECK) != check_of(copy, IMAGE - IMAGE_CHECK))
+    int many = 0;
+    while (many < IMAGE_NAME && name[many] >= ' ' && name[many] <= '~')
+        many++;
+    return many;
+}
+
+/* The next characters are those of a part. */
+static const char *take(struct reading *r, const char *name, size_t many)
+{
+    size_t i = 0;
+    while (i < IMAGE_PARTS && strncmp(name, parts[i].name, IMAGE_NAME) != 0)
+        i++;
+    if (i == IMAGE_PARTS)
+        return told("it has a part that no unit has, '%.*s'", text_in(name), name);
+    if (r->taken[i])
+        return told("it has the part '%s' twice", parts[i].name);
+    if (many != parts[i].many || many > (size_t)(r->end - r->at))
+        return told("its part '%s' has not %zu characters", parts[i].name, parts[i].many);
+    memcpy((uint8_t *)&whole + parts[i].at, r->at, many);
+    r->taken[i] = true;
+    r->at += many;
+    return NULL;
+}
+
+static const char *take_parts(struct reading *r)
+{
+    const char *wrong = NULL;
+    while (!wrong && r->at < r->end) {
+        const char *name = (const char *)r->at;
+        if (r->end - r->at < IMAGE_HEAD)
+            return "it has half a part";
+        r->at += IMAGE_HEAD;
+        wrong = take(r, name, number_at(r->at - 4, 4));
+    }
+    return wrong;
+}
+
+/* The file of version 1 has no names: these parts in this order, and nothing between them. */
+static const char *take_version_1(struct reading *r)
+{
+    static const struct {
+        const char *name;
+        size_t many;
+    } old[] = {{"config.number", 2}, {"config.length", 2}, {"config.inputs", 256}, {"config.outputs", 256}, {"config.calculations", 256},
+               {"config.files", 32}, {"config.values", 32}, {"numbers", 52}, {"words", 512}, {"results", 512}, {"fixed", 528},
+               {"block", 512}, {"records", 38912}, {"counts", 32}};
+    const char *wrong = NULL;
+    for (size_t i = 0; !wrong && i < sizeof old / sizeof *old; i++)
+        wrong = take(r, old[i].name, old[i].many);
+    return wrong || r->at == r->end ? wrong : "it has more than its version";
+}
+
+/* What is wrong with a file as a whole, whatever its version. */
+static const char *damage(const uint8_t *image, size_t many)
+{
+    if (many < IMAGE_TITLE + IMAGE_CHECK)
+        return "it is not whole";
+    if (memcmp(image, title, sizeof title) != 0)
+        return "it is no state file";
+    if (number_at(image + sizeof title + 2, 4) != many)
+        return "it is not whole";
+    if (number_at(image + many - IMAGE_CHECK, IMAGE_CHECK) != check_of(image, many - IMAGE_CHECK))
         return "it is damaged: its check does not fit";
-    if (memcmp(head + IMAGE_TITLE, copy + IMAGE_TITLE, IMAGE_CONFIG) != 0)
+    return NULL;
+}
+
+const char *image_read(const uint8_t *image, size_t many, struct osturdam_together *all)
+{
+    const char *wrong = damage(image, many);
+    if (wrong)
+        return wrong;
+    uint64_t version = number_at(image + sizeof title, 2);
+    if (version != 1 && version != IMAGE_VERSION)
+        return told("it is of version %u", (unsigned)version);
+    struct reading r = {.at = image + IMAGE_TITLE, .end = image + many - IMAGE_CHECK};
+    whole = *all;
+    memset(&whole.unit.config, 0, sizeof whole.unit.config);
+    wrong = version == 1 ? take_version_1(&r) : take_parts(&r);
+    if (wrong)
+        return wrong;
+    if (memcmp(whole.unit.layout, all->unit.layout, sizeof all->unit.layout) != 0)
+        return told("it is of a unit with the layout %u", osturdam_word_at(whole.unit.layout));
+    if (memcmp(&whole.unit.config, &all->unit.config, sizeof all->unit.config) != 0)
         return "it is of a unit with another configuration";
-    struct walk w = {copy + IMAGE_TITLE + IMAGE_CONFIG, true};
-    walk_unit(&w, unit);
+    *all = whole;
     return NULL;
 }

@@ -41,7 +41,7 @@ void journal_stretch(const uint8_t *stretch, size_t heard, const struct osturdam
         return;
     fputs("R\t", into);
     put_hex(stretch, heard);
-    fprintf(into, "\t%u\t", turned->outcome);
+    fprintf(into, "\t%u\t", (unsigned)turned->outcome);
     put_hex(reply, turned->sent);
     fputs(turned->sent > 0 ? "\n" : "-\n", into);
 }
@@ -54,7 +54,7 @@ void journal_action(const struct osturdam_turned *turned)
         fprintf(into, "A\t%u\t%s\n", turned->output, what);
 }
 
-void journal_event(const struct event *event, uint8_t outcome)
+void journal_event(const struct event *event, unsigned outcome)
 {
     if (!into)
         return;

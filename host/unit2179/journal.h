@@ -20,6 +20,6 @@ bool journal_open(const char *path);
 void journal_time(uint32_t ms);
 void journal_stretch(const uint8_t *stretch, size_t heard, const struct osturdam_turned *turned, const uint8_t *reply);
 void journal_action(const struct osturdam_turned *turned);
-void journal_event(const struct event *event, uint8_t outcome);
+void journal_event(const struct event *event, unsigned outcome);
 
 #endif

@@ -13,20 +13,23 @@
 
 enum { EXIT_USAGE = 2, EXIT_CONFIG, EXIT_STATE, EXIT_LINE };
 
-static struct osturdam_config config;
-static struct osturdam_unit unit;
+static struct osturdam_together all;
 
+/* A fresh unit of the configuration. */
 static bool configure(const struct options *o)
 {
+    static struct osturdam_config config;
     if (!o->config)
         config_bench(&config);
     else if (!config_read(o->config, &config))
         return false;
-    osturdam_unit_fresh(&config, &unit);
-    if (osturdam_unit_elapsed(&config, &unit, 0) != OSTURDAM_NOT_CONFIGURED)
-        return true;
-    fprintf(stderr, "unit2179: the unit does not take this configuration\n");
-    return false;
+    if (!osturdam_is_valid(&config)) {
+        fprintf(stderr, "unit2179: no unit has this configuration\n");
+        return false;
+    }
+    struct osturdam_lent lent = osturdam_lend(&all, &config);
+    osturdam_begin(&lent, &config);
+    return true;
 }
 
 /* The unit as it was kept, where it was; *store stays NULL where nothing is to be kept. */
@@ -35,8 +38,8 @@ static bool restore(const struct options *o, struct store **store)
     bool found = false;
     if (!o->state)
         return true;
-    *store = store_open(o->state, &config);
-    if (!*store || (!o->fresh && !store_load(*store, &unit, &found)))
+    *store = store_open(o->state);
+    if (!*store || (!o->fresh && !store_load(*store, &all, &found)))
         return false;
     fprintf(stderr, "unit2179: %s: %s\n", o->state, found ? "the kept state goes on" : "a fresh unit");
     return true;
@@ -68,6 +71,10 @@ int main(int many, char **words)
         options_help();
         return EXIT_SUCCESS;
     }
+    if (osturdam_layout() != OSTURDAM_LAYOUT) {
+        fprintf(stderr, "unit2179: it is linked with a library of another layout\n");
+        return EXIT_FAILURE;
+    }
     if (!configure(&options))
         return EXIT_CONFIG;
     if (!restore(&options, &store))
@@ -76,11 +83,11 @@ int main(int many, char **words)
         return EXIT_FAILURE;
     if (!connect_line(&options, &line))
         return EXIT_LINE;
-    struct server server = {.config = &config, .unit = &unit, .store = store, .line = &line, .events = &events,
+    struct server server = {.all = &all, .lent = osturdam_lend(&all, &all.unit.config), .store = store, .line = &line, .events = &events,
                             .quiet = {(int64_t)options.gap * NS_OF_MS, (int64_t)options.suspension * NS_OF_MS}};
     if (!serve_begin(&server))
         return EXIT_STATE;
-    printf("unit %u on %s\n", config.unit, line.name);
+    printf("unit %u on %s\n", osturdam_number_of(&all.unit.config), line.name);
     int status = ended(serve(&server), &line);
     store_close(store);
     return status;

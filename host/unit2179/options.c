@@ -135,7 +135,9 @@ static const char help[] =
 void options_help(void)
 {
     fputs(help, stdout);
-    puts(config_syntax);
-    puts(event_syntax);
+    config_help();
+    putchar('\n');
+    events_help();
+    putchar('\n');
     puts("Exit status: 0 ended in order, 1 log or events not to be had, 2 command line, 3 configuration, 4 state, 5 line.");
 }

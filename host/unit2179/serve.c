@@ -11,8 +11,8 @@
 #include "journal.h"
 
 enum {
-    KEEP_MS = 60000, /* the kept clock is never further behind */
-    WAITED_MS = 5001 /* longer than a select or a write waits */
+    KEEP_MS = 60000,                 /* the kept clock is never further behind */
+    WAITED_MS = OSTURDAM_HOLD_MS + 1 /* longer than a select or a write waits */
 };
 
 enum { BELL, EVENTS, LISTENER, FIRST_CHANNEL, POLLED = FIRST_CHANNEL + CHANNELS };
@@ -29,14 +29,14 @@ static void ring(int signal)
 static bool keep(struct server *s)
 {
     s->kept = clock_now();
-    return !s->store || store_keep(s->store, s->unit);
+    return !s->store || store_keep(s->store, s->all);
 }
 
 static void pass(struct server *s, uint32_t ms)
 {
     if (ms == 0)
         return;
-    osturdam_unit_elapsed(s->config, s->unit, ms);
+    osturdam_wait(&s->lent, ms);
     journal_time(ms);
 }
 
@@ -59,13 +59,14 @@ bool serve_begin(struct server *s)
     signal(SIGPIPE, SIG_IGN);
     s->told = clock_now();
     /* nobody knows how long the unit was down, so no select and no write may outlive that */
-    if (s->unit->kept.hold == 1 || s->unit->kept.write != 0)
+    const struct osturdam_unit *unit = &s->all->unit;
+    if (osturdam_kept_of(unit, OSTURDAM_SELECT) == OSTURDAM_HELD || osturdam_kept_of(unit, OSTURDAM_WRITE) == OSTURDAM_WAITS)
         pass(s, WAITED_MS);
     return keep(s);
 }
 
 /* Damage and frames for other units leave only the port's status behind them, which can wait for the next event. */
-static bool reached(uint8_t outcome)
+static bool reached(enum osturdam_outcome outcome)
 {
     return outcome != OSTURDAM_NOT_WHOLE && outcome != OSTURDAM_CHECK_WRONG && outcome != OSTURDAM_OTHER_UNIT;
 }
@@ -75,8 +76,10 @@ static bool hear(struct server *s, struct channel *channel)
 {
     uint8_t reply[OSTURDAM_REPLY];
     struct stretch *stretch = &channel->stretch;
+    struct osturdam_heard heard = {.chars = stretch->chars, .count = stretch->heard, .buffer = reply, .room = sizeof reply};
+    struct osturdam_turned turned;
     pass_time(s);
-    struct osturdam_turned turned = osturdam_unit_stretch(s->config, s->unit, stretch->chars, stretch->heard, reply, sizeof reply);
+    osturdam_hear(&s->lent, &heard, &turned);
     if (reached(turned.outcome) && !keep(s))
         return false;
     journal_stretch(stretch->chars, stretch->heard, &turned, reply);
@@ -93,7 +96,7 @@ static bool take_event(void *context, const struct event *event)
 {
     struct server *s = context;
     pass_time(s);
-    uint8_t outcome = event_apply(event, s->config, s->unit);
+    unsigned outcome = event_apply(event, &s->lent);
     if (!keep(s))
         return false;
     journal_event(event, outcome);

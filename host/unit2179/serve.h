@@ -8,8 +8,8 @@
 #include "state.h"
 
 struct server {
-    const struct osturdam_config *config;
-    struct osturdam_unit *unit;
+    struct osturdam_together *all;
+    struct osturdam_lent lent; /* all of it */
     struct store *store; /* NULL: nothing is kept */
     struct line *line;
     struct events *events;

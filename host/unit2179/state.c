@@ -13,7 +13,6 @@
 
 struct store {
     struct place at;
-    const struct osturdam_config *config;
     char *fresh;  /* the path of the file that is being written */
     char *folder; /* that both lie in */
     int lock;
@@ -48,7 +47,7 @@ static bool lock(struct store *store, const char *path)
     return true;
 }
 
-struct store *store_open(const char *path, const struct osturdam_config *config)
+struct store *store_open(const char *path)
 {
     struct store *store = calloc(1, sizeof *store);
     if (!store) {
@@ -56,7 +55,6 @@ struct store *store_open(const char *path, const struct osturdam_config *config)
         return NULL;
     }
     store->at.name = path;
-    store->config = config;
     store->lock = -1;
     store->fresh = joined(path, ".new");
     store->folder = joined(path, "");
@@ -82,7 +80,7 @@ void store_close(struct store *store)
     free(store);
 }
 
-/* Reads up to one character more than an image has, so that a file that is too long is seen. */
+/* Reads a file, or as many characters of it as there is room for. */
 static ssize_t read_whole(int file, uint8_t *room, size_t most)
 {
     size_t have = 0;
@@ -97,18 +95,19 @@ static ssize_t read_whole(int file, uint8_t *room, size_t most)
     return (ssize_t)have;
 }
 
-bool store_load(struct store *store, struct osturdam_unit *unit, bool *found)
+bool store_load(struct store *store, struct osturdam_together *all, bool *found)
 {
-    static uint8_t room[IMAGE + 1];
+    static uint8_t room[IMAGE_MOST];
+    struct osturdam_lent lent = osturdam_lend(all, &all->unit.config);
     int file = open(store->at.name, O_RDONLY | O_CLOEXEC);
     *found = file >= 0;
     if (file < 0 && errno == ENOENT)
         return true;
     ssize_t have = file < 0 ? -1 : read_whole(file, room, sizeof room);
-    const char *wrong = have < 0 ? strerror(errno) : have != IMAGE ? "it is not whole" : image_read(room, store->config, unit);
+    const char *wrong = have < 0 ? strerror(errno) : image_read(room, (size_t)have, all);
     if (file >= 0)
         close(file);
-    if (!wrong && osturdam_unit_elapsed(store->config, unit, 0) == OSTURDAM_NOT_CONFIGURED)
+    if (!wrong && osturdam_wait(&lent, 0) == OSTURDAM_NOT_CONFIGURED)
         wrong = "it has a number that no unit keeps";
     if (wrong)
         complain(&store->at, "the state cannot be used: %s (--fresh begins anew and gives it up)", wrong);
@@ -149,9 +148,9 @@ static bool replaced(struct store *store)
     return good && rename(store->fresh, store->at.name) == 0 && synced(store->folder);
 }
 
-bool store_keep(struct store *store, const struct osturdam_unit *unit)
+bool store_keep(struct store *store, const struct osturdam_together *all)
 {
-    image_write(store->next, store->config, unit);
+    image_write(store->next, all);
     if (store->kept && memcmp(store->next, store->latest, IMAGE) == 0)
         return true;
     if (!replaced(store)) {

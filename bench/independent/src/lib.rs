@@ -1,13 +1,13 @@
-//! The independent program's unit behind C functions, with the structs of include/osturdam.h.
+//! The independent program's unit behind C functions, with the structs of bench/functions/plain.h.
 
 use independent::{Config, State};
 use std::mem::size_of;
 use std::slice;
 
-/// The configuration as C lays it out.
+/// The configuration as C lays it out: `struct plain_config`.
 #[repr(C)]
 pub struct CConfig {
-    unit: u16,
+    number: u16,
     length: usize,
     inputs: [u8; 256],
     outputs: [u8; 256],
@@ -16,7 +16,7 @@ pub struct CConfig {
     values: [u8; 32],
 }
 
-/// How a stretch ended, as C lays it out.
+/// How a stretch ended, as C lays it out: `struct plain_turned`.
 #[repr(C)]
 pub struct Turned {
     sent: usize,
@@ -33,7 +33,7 @@ pub struct Unit {
 }
 
 fn config(c: &CConfig) -> Config {
-    let mut config = Config::new(c.unit);
+    let mut config = Config::new(c.number);
     config.inputs = c.inputs.map(|equipped| equipped != 0);
     config.outputs = c.outputs.map(|equipped| equipped != 0);
     config.calculations = c.calculations.map(|equipped| equipped != 0);

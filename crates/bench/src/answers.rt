@@ -2,14 +2,16 @@
 use super::flow;
 use super::flow::Flow;
 use frames::outcomes;
+use layout::CONFIG;
+use layout::UNIT;
 use lines::Line;
+use model::Input;
 ghost use mathlib.Core.Path.{_≡_};
 ghost use Prim.Native.Nat.{_+_, _≤_, _<_};
 ghost use lib.ListN.{length};
 ghost use Rattle.model.specs.Bench.{benchConfig};
+ghost use Rattle.layout.specs.Unit.{configGiven};
 ghost use Rattle.bench.specs.Flow.{Flows};
-
-const UNIT: u16 = 1234;
 
 // How a line ended: the outcome, and how many characters the unit sent.
 pub struct Ended {
@@ -17,25 +19,21 @@ pub struct Ended {
     pub sent: usize,
 }
 
-// Inputs 30h and 40h, and no others.
-pub fn equipped() -> [u8; 256]
-    ensures { λ r. ⌜ r ≡ benchConfig .inputs ⌝ }
+// Unit 1234 with inputs 30h and 40h, and nothing else.
+pub fn configured() -> [u8; CONFIG]
+    ensures { λ r. ⌜ configGiven r ≡ benchConfig ⌝ }
 {
-    let mut inputs = [0u8; 256];
-    inputs[0x30] = 1;
-    inputs[0x40] = 1;
-    inputs
+    let mut config = [0u8; CONFIG];
+    layout::name_unit(&mut config, 1234);
+    layout::equip_input(&mut config, Input(0x30));
+    layout::equip_input(&mut config, Input(0x40));
+    config
 }
 
-// The stretch is the first n characters that were heard.
+// The stretch is the first n characters that were heard. The unit has no parameters.
 fn hear<'a>(
-    inputs: &'a [u8; 256],
-    kept: &mut [u16; 26],
-    words: &mut [u16; 256],
-    results: &'a [u32; 128],
-    fixed: &mut [u8; 528],
-    area: &mut [u8; 38912],
-    counts: &mut [u8; 32],
+    unit: &mut [u8; UNIT],
+    records: &mut [u8],
     heard: &'a [u8],
     n: usize,
     reply: &mut [u8],
@@ -43,27 +41,8 @@ fn hear<'a>(
     requires { ⌜ n ≤ length (now heard) ⌝ }
     ensures { λ r. ⌜ r .sent ≤ length (now (reply .entry)) ⌝ }
 {
-    let none = [0u8; 256];
-    let files = [0u8; 32];
     let mut block = [0u8; 0];
-    let turn = unit::stretch(
-        UNIT,
-        0,
-        inputs,
-        &none,
-        &none,
-        &files,
-        &files,
-        kept,
-        words,
-        results,
-        fixed,
-        &mut block,
-        area,
-        counts,
-        reply,
-        &heard[..n],
-    );
+    let turn = unit::stretch(unit, &mut block, records, reply, &heard[..n]);
     let outcome = turn.outcome;
     Ended {
         outcome: outcomes::number(outcome),
@@ -71,25 +50,11 @@ fn hear<'a>(
     }
 }
 
-fn wait<'a>(inputs: &'a [u8; 256], kept: &mut [u16; 26], counts: &'a [u8; 32], ms: u32) -> Ended
+fn wait<'a>(unit: &mut [u8; UNIT], records: &'a [u8], ms: u32) -> Ended
     ensures { λ r. ⌜ r .sent ≡ 0 ⌝ }
 {
-    let none = [0u8; 256];
-    let files = [0u8; 32];
     let block = [0u8; 0];
-    let outcome = events::elapsed(
-        UNIT,
-        0,
-        inputs,
-        &none,
-        &none,
-        &files,
-        &files,
-        kept,
-        &block,
-        counts,
-        ms,
-    );
+    let outcome = events::elapsed(unit, &block, records, ms);
     Ended {
         outcome: outcomes::number(outcome),
         sent: 0,
@@ -122,13 +87,8 @@ fn show_other(shown: &mut [u8], flow: Flow) -> Flow
 
 // A whole line: the unit hears or waits as it says, and how that ended is shown.
 pub fn answer<'a>(
-    inputs: &'a [u8; 256],
-    kept: &mut [u16; 26],
-    words: &mut [u16; 256],
-    results: &'a [u32; 128],
-    fixed: &mut [u8; 528],
-    area: &mut [u8; 38912],
-    counts: &mut [u8; 32],
+    unit: &mut [u8; UNIT],
+    records: &mut [u8],
     line: &'a [u8],
     shown: &mut [u8],
     flow: Flow,
@@ -142,22 +102,11 @@ pub fn answer<'a>(
     let said = lines::read_line(&line[..long], &mut heard);
     match said {
         Line::Stretch(n) => {
-            let ended = hear(
-                inputs,
-                kept,
-                words,
-                results,
-                fixed,
-                area,
-                counts,
-                &heard,
-                n,
-                &mut reply,
-            );
+            let ended = hear(unit, records, &heard, n, &mut reply);
             show(shown, flow, ended, &reply)
         }
         Line::Time(ms) => {
-            let ended = wait(inputs, kept, counts, ms);
+            let ended = wait(unit, records, ms);
             show(shown, flow, ended, &reply)
         }
         Line::Other => show_other(shown, flow),

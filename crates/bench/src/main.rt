@@ -4,20 +4,16 @@ mod answers;
 mod flow;
 
 use flow::Flow;
+use layout::UNIT;
 ghost use Prim.Native.Nat.{_+_, _≤_, _<_};
 ghost use mathlib.Core.Path.{_≡_};
 ghost use lib.ListN.{length};
 ghost use Rattle.bench.specs.Flow.{Flows};
 
 // A step of the flow, and the line answered that it made whole.
-fn turn<'a>(
-    inputs: &'a [u8; 256],
-    kept: &mut [u16; 26],
-    words: &mut [u16; 256],
-    results: &'a [u32; 128],
-    fixed: &mut [u8; 528],
-    area: &mut [u8; 38912],
-    counts: &mut [u8; 32],
+fn turn(
+    unit: &mut [u8; UNIT],
+    records: &mut [u8],
     read: &mut [u8],
     line: &mut [u8],
     shown: &mut [u8],
@@ -28,51 +24,20 @@ fn turn<'a>(
 {
     let flow = flow::step(read, line, shown, before);
     if flow.whole {
-        return answers::answer(
-            inputs,
-            kept,
-            words,
-            results,
-            fixed,
-            area,
-            counts,
-            line,
-            shown,
-            flow,
-        );
+        return answers::answer(unit, records, line, shown, flow);
     }
     flow
 }
 
 // Turns until the input ends. Nothing says that it does: they are counted down from a number that no input uses up.
-fn run<'a>(
-    inputs: &'a [u8; 256],
-    kept: &mut [u16; 26],
-    words: &mut [u16; 256],
-    results: &'a [u32; 128],
-    fixed: &mut [u8; 528],
-    area: &mut [u8; 38912],
-    counts: &mut [u8; 32],
-) {
+fn run(unit: &mut [u8; UNIT], records: &mut [u8]) {
     let mut read = [0u8; 65536];
     let mut line = [0u8; 2001];
     let mut shown = [0u8; 65536];
     let mut flow = flow::start();
     let mut turns = u64::MAX;
     while 0 < turns {
-        flow = turn(
-            inputs,
-            kept,
-            words,
-            results,
-            fixed,
-            area,
-            counts,
-            &mut read,
-            &mut line,
-            &mut shown,
-            flow,
-        );
+        flow = turn(unit, records, &mut read, &mut line, &mut shown, flow);
         if flow.over {
             turns = 0;
         } else {
@@ -84,29 +49,10 @@ fn run<'a>(
 
 // The unit is fresh, and has no parameters.
 fn main() {
-    let inputs = answers::equipped();
-    let mut kept = [0u16; 26];
-    let mut words = [0u16; 256];
-    let mut results = [0u32; 128];
-    let mut fixed = [0u8; 528];
+    let config = answers::configured();
+    let mut unit = [0u8; UNIT];
     let mut block = [0u8; 0];
-    let mut area = [0u8; 38912];
-    let mut counts = [0u8; 32];
-    unit::fresh(
-        &mut kept,
-        &mut words,
-        &mut results,
-        &mut fixed,
-        &mut block,
-        &mut counts,
-    );
-    run(
-        &inputs,
-        &mut kept,
-        &mut words,
-        &results,
-        &mut fixed,
-        &mut area,
-        &mut counts,
-    );
+    let mut records = [0u8; 38912];
+    unit::fresh(&mut unit, &mut block, &config);
+    run(&mut unit, &mut records);
 }

@@ -1,8 +1,9 @@
 -- Laws of the answers: what the code gives, as equations, is what the definitions ask. Assumes nothing.
 use mathlib.Core.Path.{_≡_, refl, sym, ap, _∙_}
-use mathlib.Core.Bool.{true, false}
+use mathlib.Core.Bool.{Bool, true, false}
 use mathlib.Core.List.{List}
 use Prim.Native.Nat.{ℕ, _+_, _≤_}
+use native.Mathlib.Omega.{arith}
 use lib.ListN.{length, getD}
 use lib.Dec.{eqb}
 use borrow.Author.Tests.{eq-eqb, ne-eqb}
@@ -15,45 +16,60 @@ use Rattle.model.specs.Scan.{Fills, counts}
 use Rattle.model.specs.Blocks.{baseOf, blockOf, reaches, notExecuted, executes, returned, readOf}
 use Rattle.model.specs.declared.Outcome.{Outcome}
 use Rattle.model.specs.declared.Outcome.the-variants.{Done, NotValid}
+use Rattle.layout.specs.Unit.{unitIn, putFixed}
+use Rattle.layout.proofs.UnitLaws.{fixed-own}
 use Rattle.blocks.specs.Answers.{ExecutesAs}
 use Rattle.blocks.specs.declared.Executed.{Executed}
-use Rattle.blocks.proofs.BlockLaws.{reached-inside}
+use Rattle.blocks.proofs.BlockLaws.{reached-inside, reached-fixed}
+use Rattle.blocks.proofs.MeansLaws.{fixed-put}
+
+-- a test of the fixed area as it was lent is one of the unit's memory
+pub judged-as : (u found block : List ℕ) (o bias n : ℕ) (b t : Bool) → found ≡ unitIn u .fixed → b ≡ reaches found block o bias n → b ≡ t
+    → reaches (unitIn u .fixed) block o bias n ≡ t
+judged-as u found block o bias n b t e r h = rw (← e) (sym r ∙ h)
 
 -- ---- EXECUTE
 
-pub refused-as : (o : Outcome) (fixed block : List ℕ) (r : Executed) → r ≡ record { outcome = o; configures = false; clears = false }
-    → ExecutesAs (notExecuted o fixed block) fixed block r
+pub refused-as : (o : Outcome) (u block : List ℕ) (r : Executed) → r ≡ record { outcome = o; configures = false; clears = false }
+    → ExecutesAs u (notExecuted o (unitIn u .fixed) block) u block r
 unfolding notExecuted
-refused-as o fixed block r e = rw e (record { ended = refl; configured = refl; cleared = refl; fixed-left = refl; block-left = refl })
+refused-as o u block r e = rw e (record { ended = refl; configured = refl; cleared = refl; left = sym (fixed-own u); block-left = refl })
 
 abbrev Accepted : ℕ → Executed → Type 0
 Accepted o r = r ≡ record { outcome = Done; configures = eqb o 0x03; clears = eqb o 0x00 }
 
-module _ (fixed block : List ℕ) (o bias : ℕ) (ys : List ℕ) (r : Executed) where
-  pub not-stored : reaches fixed block o bias (length ys) ≡ false → r ≡ record { outcome = NotValid; configures = false; clears = false }
-      → ExecutesAs (executes fixed block o bias ys) fixed block r
+module _ (u block : List ℕ) (o bias : ℕ) (ys : List ℕ) (r : Executed) where
+  pub not-stored : reaches (unitIn u .fixed) block o bias (length ys) ≡ false → r ≡ record { outcome = NotValid; configures = false; clears = false }
+      → ExecutesAs u (executes (unitIn u .fixed) block o bias ys) u block r
   unfolding executes
-  not-stored h e = rw h (refused-as NotValid fixed block r e)
+  not-stored h e = rw h (refused-as NotValid u block r e)
 
-  pub stored-block : (exit : List ℕ) → reaches fixed block o bias (length ys) ≡ true → o ≡ 0x06
+  pub stored-block : (exit : List ℕ) → reaches (unitIn u .fixed) block o bias (length ys) ≡ true → o ≡ 0x06
       → exit ≡ put block bias (part ys 0 (length ys)) → Accepted o r
-      → ExecutesAs (executes fixed block o bias ys) fixed exit r
+      → ExecutesAs u (executes (unitIn u .fixed) block o bias ys) u exit r
   unfolding executes
   stored-block exit h e k a =
       simp (h, eq-eqb _ _ e, a)
-      (record { ended = refl; configured = refl; cleared = refl; fixed-left = refl; block-left = k ∙ ap (put block bias) (part-whole ys (length ys) refl) })
+      (record {
+        ended = refl;
+        configured = refl;
+        cleared = refl;
+        left = sym (fixed-own u);
+        block-left = k ∙ ap (put block bias) (part-whole ys (length ys) refl);
+      })
 
-  pub stored-fixed : (exit : List ℕ) (base : ℕ) → reaches fixed block o bias (length ys) ≡ true → (o ≡ 0x06 → ⊥) → base ≡ baseOf o
-      → exit ≡ put fixed (base + bias) (part ys 0 (length ys)) → Accepted o r
-      → ExecutesAs (executes fixed block o bias ys) exit block r
+  pub stored-fixed : (v : List ℕ) (base : ℕ) → reaches (unitIn u .fixed) block o bias (length ys) ≡ true → (o ≡ 0x06 → ⊥) → base ≡ baseOf o
+      → v ≡ putFixed u (base + bias) ys → Accepted o r
+      → ExecutesAs u (executes (unitIn u .fixed) block o bias ys) v block r
   unfolding executes
-  stored-fixed exit base h e b k a =
+  stored-fixed v base h e b k a =
+      let inside : base + bias + length ys ≤ 528 = omega (arith, reached-fixed _ _ _ _ _ h e) in
       simp (h, ne-eqb _ _ e, a)
       (record {
         ended = refl;
         configured = refl;
         cleared = refl;
-        fixed-left = k ∙ ap (put fixed (base + bias)) (part-whole ys (length ys) refl) ∙ ap (λ (n : ℕ). put fixed (n + bias) ys) b;
+        left = k ∙ fixed-put u (base + bias) ys inside ∙ ap (λ (n : ℕ). putFixed u 0 (put (unitIn u .fixed) (n + bias) ys)) b;
         block-left = refl;
       })
 

@@ -3,8 +3,8 @@
 use mathlib.Core.Path.{_≡_, refl, sym, ap, _∙_}
 use mathlib.Core.Logic.{_⊎_, inl, inr, ⊎-elim}
 use mathlib.Core.Bool.{true, false, cond}
-use mathlib.Core.List.{List, [], _∷_}
-use Prim.Native.Nat.{ℕ, zero, suc, _+_, _-_, _≤_}
+use mathlib.Core.List.{List, []}
+use Prim.Native.Nat.{ℕ, _+_, _-_, _≤_}
 use native.Mathlib.Omega.{arith}
 use lib.ListN.{length, take, drop, length-drop, drop-of-length-le}
 use lib.Seq.{take-all, take-nil}
@@ -13,6 +13,7 @@ use borrow.Author.Tests.{leb-true, ne-eqb}
 use Rattle.chars.specs.Put.{put, part}
 use Rattle.chars.proofs.PutLaws.{drop-put-in, part-put, part-put-before, part-put-after, part-most}
 use Rattle.model.specs.Blocks.{known, baseOf, blockOf, reaches, executes}
+use Rattle.layout.proofs.RegionLaws.{take-put-in}
 use Rattle.model.proofs.Conditions.{by-eqb, and-left, and-right, false-true}
 
 -- ---- a part that its area cuts short
@@ -28,14 +29,6 @@ part-rest xs base size h =
     take-all (length xs - base) (drop base xs) (omega arith) ∙ sym (take-all size (drop base xs) (omega arith))
 
 -- ---- a run in an area is a run in the part that holds it
-
-take-put-in : (n : ℕ) (xs : List ℕ) (at : ℕ) (ys : List ℕ) → take n (put xs at ys) ≡ put (take n xs) at ys
-unfolding put
-take-put-in zero xs at ys = refl
-take-put-in (suc n) [] at ys = refl
-take-put-in (suc n) (x ∷ xs) zero [] = refl
-take-put-in (suc n) (x ∷ xs) zero (y ∷ ys) = ap (λ (l : List ℕ). y ∷ l) (take-put-in n xs zero ys)
-take-put-in (suc n) (x ∷ xs) (suc at) ys = ap (λ (l : List ℕ). x ∷ l) (take-put-in n xs at ys)
 
 pub part-put-in : (xs : List ℕ) (base size b : ℕ) (ys : List ℕ) → part (put xs (base + b) ys) base size ≡ put (part xs base size) b ys
 unfolding part
@@ -155,6 +148,22 @@ module _ (fixed block : List ℕ) (o bias n : ℕ) (h : reaches fixed block o bi
   pub reached-inside : bias + n ≤ length (blockOf fixed block o)
   unfolding reaches
   reached-inside = leb-true _ _ (and-right (known o) _ h)
+
+module _ (fixed block : List ℕ) where
+  -- a block of the fixed area ends in it
+  Ends : ℕ → Type 0
+  Ends o = (o ≡ 0x06 → ⊥) → baseOf o + length (blockOf fixed block o) ≤ 528
+
+  ends : (o : ℕ) → known o ≡ true → Ends o
+  unfolding Ends blockOf baseOf
+  ends o k =
+      by-known Ends o k (λ n. omega (arith, part-most fixed 0 16)) (λ n. omega (arith, part-most fixed 16 256)) (λ n. absurd (n refl))
+      (λ n. omega (arith, part-most fixed 272 256))
+
+  pub reached-fixed : (o bias n : ℕ) → reaches fixed block o bias n ≡ true → (o ≡ 0x06 → ⊥) → baseOf o + bias + n ≤ 528
+  unfolding Ends
+  reached-fixed o bias n h e =
+      omega (arith, reached-inside fixed block o bias n h, ends o (reached-known fixed block o bias n h) e)
 
 module _ (fixed block : List ℕ) (o bias : ℕ) (ys : List ℕ) (h : reaches fixed block o bias (length ys) ≡ true) where
   fixed-is : executes fixed block o bias ys .fixed ≡ fixedAfter fixed block o bias ys

@@ -18,15 +18,16 @@ one-written m r s a b = ap (λ (o : Outcome). made o (r .write)) (a .ended ∙ s
     made o w = record { outcome = o; write = w }
 
 -- execute
-pub one-executed : (m : definition.Executed) (fixed block fixed′ block′ : List ℕ) (r s : Executed) → ExecutesAs m fixed block r → ExecutesAs m fixed′ block′ s
-    → (r ≡ s) × (fixed ≡ fixed′) × (block ≡ block′)
-one-executed m fixed block fixed′ block′ r s a b = (
+pub one-executed : (u : List ℕ) (m : definition.Executed) (v block v′ block′ : List ℕ) (r s : Executed)
+    → ExecutesAs u m v block r → ExecutesAs u m v′ block′ s
+    → (r ≡ s) × (v ≡ v′) × (block ≡ block′)
+one-executed u m v block v′ block′ r s a b = (
   ap (λ (o : Outcome). made o (r .configures) (r .clears)) (a .ended ∙ sym (b .ended))
       ∙ ap (λ (t : Bool). made (s .outcome) t (r .clears)) (a .configured ∙ sym (b .configured))
       ∙ ap (made (s .outcome) (s .configures)) (a .cleared ∙ sym (b .cleared)),
-  a .fixed-left ∙ sym (b .fixed-left),
+  a .left ∙ sym (b .left),
   a .block-left ∙ sym (b .block-left),
 )
   where
     made : Outcome → Bool → Bool → Executed
-    made o t u = record { outcome = o; configures = t; clears = u }
+    made o t c = record { outcome = o; configures = t; clears = c }

@@ -3,6 +3,7 @@ use mathlib.Core.Path.{_≡_}
 use Prim.Native.Nat.{ℕ}
 use mathlib.Core.List.{List}
 use Rattle.model.specs.Blocks as model
+use Rattle.layout.specs.Unit.{putFixed}
 use Rattle.blocks.specs.declared.Written.{Written}
 use Rattle.blocks.specs.declared.Executed.{Executed}
 
@@ -11,10 +12,10 @@ pub record WritesAs (m : model.Written) (r : Written) : Type 0 where
   pub ended : r .outcome ≡ m .outcome
   pub waiting : r .write ≡ m .write
 
--- the answer to an EXECUTE that came to m, with both areas as it left them
-pub record ExecutesAs (m : model.Executed) (fixed block : List ℕ) (r : Executed) : Type 0 where
+-- the answer to an EXECUTE that came to m over a unit's memory u, with that memory and the block as it left them
+pub record ExecutesAs (u : List ℕ) (m : model.Executed) (v block : List ℕ) (r : Executed) : Type 0 where
   pub ended : r .outcome ≡ m .outcome
   pub configured : r .configures ≡ m .configures
   pub cleared : r .clears ≡ m .clears
-  pub fixed-left : fixed ≡ m .fixed
+  pub left : v ≡ putFixed u 0 (m .fixed)
   pub block-left : block ≡ m .block

@@ -1,5 +1,6 @@
-// WRITE, EXECUTE and READ over the unit's blocks, which lie in the fixed area and in the parameter block; the caller lends both.
+// WRITE, EXECUTE and READ over the blocks, which lie in the fixed area of a unit's memory and in the parameter block; the caller lends both.
 use frames::master_of;
+use layout::UNIT;
 use model::Filled;
 use model::Frame;
 use model::Master;
@@ -18,9 +19,10 @@ ghost use Rattle.chars.specs.Put.{part};
 ghost use Rattle.chars.specs.Word.{wordAt};
 ghost use Rattle.model.specs.declared.Outcome.the-variants.{Done};
 ghost use Rattle.model.specs.Limits.{mostAsked};
-ghost use Rattle.model.specs.Frame.{asked, masterOf};
+ghost use Rattle.model.specs.Frame.{asked};
 ghost use Rattle.model.specs.Scan.{Fills};
 ghost use Rattle.model.specs.Blocks as definition;
+ghost use Rattle.layout.specs.Unit.{unitIn};
 ghost use Rattle.blocks.specs.Answers.{WritesAs, ExecutesAs};
 
 // How many characters of data a frame has at most.
@@ -220,22 +222,22 @@ fn store(
     ordinal: Ordinal,
     bias: u16,
     body: &[u8],
-    fixed: &mut [u8; 528],
+    unit: &mut [u8; UNIT],
     block: &mut [u8],
 ) -> Executed
     requires { ⌜ length (now body) ≤ mostAsked ⌝ }
-    ensures { λ r. ⌜ ExecutesAs
-        (definition.executes (now (fixed .entry)) (now (block .entry)) (ordinal .0) bias (now (body .entry)))
-        (now (fixed .exit)) (now (block .exit)) r ⌝ }
+    ensures { λ r. ⌜ ExecutesAs (now (unit .entry))
+        (definition.executes (unitIn (now (unit .entry)) .fixed) (now (block .entry)) (ordinal .0) bias (now (body .entry)))
+        (now (unit .exit)) (now (block .exit)) r ⌝ }
 {
     let n = body.len();
     let o = ordinal.0;
-    if reaches(fixed, block, ordinal, bias, n as u8) {
+    if reaches(layout::fixed_of(unit), block, ordinal, bias, n as u8) {
         if o == 0x06 {
             chars::copy(body, 0, n, block, bias as usize);
             return accepted(o);
         }
-        chars::copy(body, 0, n, fixed, base_of(o) + bias as usize);
+        layout::put_fixed(unit, base_of(o) + bias as usize, body);
         return accepted(o);
     }
     refused(Outcome::NotValid)
@@ -246,12 +248,12 @@ pub fn execute(
     pending: Pending,
     frame: Frame,
     body: &[u8],
-    fixed: &mut [u8; 528],
+    unit: &mut [u8; UNIT],
     block: &mut [u8],
 ) -> Executed
-    ensures { λ r. ⌜ ExecutesAs
-        (definition.executeOf pending (now (fixed .entry)) (now (block .entry)) (asked frame (now (body .entry))))
-        (now (fixed .exit)) (now (block .exit)) r ⌝ }
+    ensures { λ r. ⌜ ExecutesAs (now (unit .entry))
+        (definition.executeOf pending (unitIn (now (unit .entry)) .fixed) (now (block .entry)) (asked frame (now (body .entry))))
+        (now (unit .exit)) (now (block .exit)) r ⌝ }
 {
     let n = body.len();
     if n < 1 {
@@ -267,7 +269,7 @@ pub fn execute(
             let master = master_of(frame.address);
             if holder.0 == master.0 {
                 let ordinal = w.ordinal;
-                return store(ordinal, w.bias, body, fixed, block);
+                return store(ordinal, w.bias, body, unit, block);
             }
             refused(Outcome::WriteHeld)
         }
@@ -291,14 +293,14 @@ fn returned(outcome: Outcome, frame: Frame, body: &[u8], reply: &mut [u8]) -> Fi
 
 // 28h/30h: the characters asked for, behind the room for the reply's head.
 pub fn read<'a>(
-    fixed: &'a [u8; 528],
+    unit: &'a [u8; UNIT],
     block: &'a [u8],
     frame: Frame,
     body: &'a [u8],
     reply: &mut [u8],
 ) -> Filled
     ensures { λ r. ⌜ Fills (now (reply .entry)) (now (reply .exit))
-        (definition.readOf (now (fixed .entry)) (now (block .entry)) (asked frame (now (body .entry)))) r ⌝ }
+        (definition.readOf (unitIn (now (unit .entry)) .fixed) (now (block .entry)) (asked frame (now (body .entry)))) r ⌝ }
 {
     if body.len() != 4 {
         return returned(Outcome::WrongCount, frame, body, reply);
@@ -307,6 +309,7 @@ pub fn read<'a>(
     let ordinal = Ordinal(body[2]);
     let count = body[3];
     let n = chars::wide(count);
+    let fixed = layout::fixed_of(unit);
     if reaches(fixed, block, ordinal, bias, count) {
         let found = find(fixed, block, ordinal, bias, count);
         chars::copy(found, 0, n, reply, Reply::HEAD);

@@ -1,58 +1,107 @@
--- A run of calls from C is a run of the unit's entries: no call of the library leaves numbers that the next turns away.
--- Assumes nothing.
-use mathlib.Core.Path.{_≡_, refl, ap, _∙_}
-use Prim.Native.Nat.{ℕ}
+-- A run of calls from C is a run of the unit's entries: no call of the library leaves what the next turns away. Assumes nothing.
+use mathlib.Core.Path.{_≡_, refl, sym, ap, subst, _∙_}
+use Prim.Native.Nat.{ℕ, _≤_}
 use mathlib.Core.List.{List, [], _∷_, map}
 use mathlib.Core.Bool.{true}
-use Rattle.model.specs.Config.{Config}
-use Rattle.model.specs.State.{freshOf}
-use Rattle.model.specs.Step.{Event}
-use Rattle.model.specs.Run.{afterFrom, traceFrom, after, trace}
-use Rattle.numbers.specs.Numbers.{readable}
-use Rattle.numbers.proofs.NumbersLaws.{written-readable}
-use Rattle.events.specs.Kept.{stateOf, keptOf, Owned, ownedOf, keptIn}
+use lib.ListN.{length}
+use native.Mathlib.Omega.{arith}
+use Rattle.model.specs.Outcome.{numberOf, answerNumber, storedNumber}
+use Rattle.model.specs.Config.{Config, validOf}
+use Rattle.model.specs.State.{State, freshOf}
+use Rattle.model.specs.Fits.{fits}
+use Rattle.model.specs.Formed.{AllGiven}
+use Rattle.model.specs.Step.{Event, makeOf}
+use Rattle.model.specs.Run.{Result, short, turnedAway, shows, resultOf, nextOf, entryOf, afterFrom, traceFrom, after, trace}
+use Rattle.model.specs.declared.Outcome.the-variants.{NotConfigured}
+use Rattle.model.specs.declared.Answer.{Answer}
+use Rattle.model.specs.declared.Answer.the-variants.{Ended, Storing}
+use Rattle.model.specs.declared.Stored.the-variants.{Kept as KeptRecord, Full, NotEquipped, WrongValues}
+use Rattle.model.proofs.Conditions.{by-bool}
+use Rattle.model.proofs.TurnedAway.{short-away, works, made-row}
+use Rattle.model.proofs.Valid.{fresh-fits, step-fits}
+use Rattle.layout.specs.Unit.{configIn, configGiven, roomOf}
+use Rattle.events.specs.Kept.{Kept, stateOf, Owned, ownedOf, keptIn, standing}
 use Rattle.unit.specs.Fresh.{Freshly}
-use Rattle.unit.specs.Calls.{none as noCalls, heard as heardCall, heeded as heededCall}
-use Rattle.unit.proofs.FreshLaws.{fresh-is}
+use Rattle.unit.specs.Calls.{Calls, none as noCalls, heard as heardCall, heeded as heededCall}
+use Rattle.unit.proofs.FreshLaws.{laid-config, laid-state, laid-stands}
 use Rattle.unit.proofs.CallLaws.{results as resultsOf, calls-after, calls-trace}
 use Rattle.board.specs.Told.{actionNumber, outputNumber}
-use Rattle.board.specs.Runs.{Shown, numbered, shownIn, Runs, none, heard, heeded, RunsAs}
+use Rattle.board.specs.Runs.{Shown, numbered, toldIn, Runs, none, heard, heeded, RunsAs, Taken, none as noneTaken, one}
+use Rattle.board.proofs.ToldLaws.{shown-told}
 
-pub runs-as : (c : Config) {x y : Owned} {es : List Event} {xs : List Shown} → readable (x .numbers) ≡ true → Runs c x es xs y → RunsAs c x es xs y
+pub runs-as : {x y : Owned} {es : List Event} {xs : List Shown} → standing x ≡ true → Runs x es xs y → RunsAs x es xs y
 unfolding numbered actionNumber outputNumber
-runs-as c e none = record { results = []; calls = noCalls; shown = refl; stand = e }
-runs-as c e (heard {exit = exit} a rest) =
+runs-as e none = record { results = []; calls = noCalls; shown = refl; stand = e; steady = record { layout = refl; config = refl; long = refl } }
+runs-as {y = z} e (heard {y = y} {exit = exit} {es = es} a rest) =
     let b = a .serves .read e in
-    let w = runs-as c (b .stand) rest in
+    let w = runs-as (b .stand) rest in
+    let t = b .turns in
     record {
       results = _;
-      calls = heardCall (b .turns) (w .calls);
-      shown = λ i. shownIn (a .shown i) exit ∷ w .shown i;
+      calls = heardCall t (subst (λ (c : Config). Calls c (keptIn y) es (w .results) (keptIn z)) (b .steady .config) (w .calls));
+      shown = λ i. shown-told (a .turn) exit (t .small) (a .number) (a .told) i ∷ w .shown i;
       stand = w .stand;
+      steady = record { layout = w .steady .layout ∙ b .steady .layout; config = w .steady .config ∙ b .steady .config; long = w .steady .long ∙ b .steady .long };
     }
-runs-as c e (heeded l a rest) =
+runs-as {y = z} e (heeded {y = y} {es = es} l a rest) =
     let b = a .tells .read e in
-    let w = runs-as c (b .stand) rest in
+    let w = runs-as (b .stand) rest in
     record {
       results = _;
-      calls = heededCall l (b .heeds) (w .calls);
-      shown = λ i. record { answer = a .said i; action = 0; output = 0; reply = [] } ∷ w .shown i;
+      calls = heededCall l (b .heeds) (subst (λ (c : Config). Calls c (keptIn y) es (w .results) (keptIn z)) (b .steady .config) (w .calls));
+      shown = λ i. toldIn (a .said i) ∷ w .shown i;
       stand = w .stand;
+      steady = record { layout = w .steady .layout ∙ b .steady .layout; config = w .steady .config ∙ b .steady .config; long = w .steady .long ∙ b .steady .long };
     }
 
--- from a fresh unit: the state afterwards and what was shown are the definition's
-module _ (c : Config) {ks ws rs fx bl ns : List ℕ} (area : List ℕ) (f : Freshly (c .block) ks ws rs fx bl ns) where
-  fresh-state : stateOf c (keptIn (ownedOf ks ws rs fx bl area ns)) ≡ freshOf c
-  fresh-state =
-      (λ i. stateOf c (keptOf (f .kept .means .core i) (f .kept .means .memory i) (f .kept .means .port i) ws rs fx bl area ns))
-      ∙ fresh-is c area (f .cleared)
+-- ---- a unit that fits gives no 17
 
-  module _ {es : List Event} {xs : List Shown} {y : Owned} (r : Runs c (ownedOf ks ws rs fx bl area ns) es xs y) where
-    pub run-after : stateOf c (keptIn y) ≡ after c es
+answer-row : (c : Config) (s : State) (e : Event) (a : Answer) → makeOf c (s .inner) e .answer ≡ a → answerNumber a ≡ 17 → ⊥
+answer-row c s e (Ended o) h n = omega (arith, made-row c (s .inner) e o h)
+answer-row c s e (Storing KeptRecord) h n = omega arith
+answer-row c s e (Storing Full) h n = omega arith
+answer-row c s e (Storing NotEquipped) h n = omega arith
+answer-row c s e (Storing WrongValues) h n = omega arith
+
+result-row : (c : Config) (s : State) (e : Event) → fits c s ≡ true → answerNumber (resultOf c s e .answer) ≡ 17 → ⊥
+unfolding turnedAway shows
+result-row c s e f n =
+    by-bool (short e)
+    (λ b. let q : 18 ≡ 17 = sym (ap (λ (r : Result). answerNumber (r .answer)) (short-away c s e b .0)) ∙ n in omega arith)
+    (λ b. answer-row c s e _ refl (sym (ap (λ (r : Result). answerNumber (r .answer)) (works c s e b f .0)) ∙ n))
+
+trace-taken : (c : Config) (s : State) (es : List Event) → fits c s ≡ true → AllGiven es → Taken (map numbered (resultsOf (traceFrom c s es)))
+unfolding resultsOf traceFrom entryOf numbered
+trace-taken c s [] f g = noneTaken
+trace-taken c s (e ∷ es) f g = one (result-row c s e f) (trace-taken c (nextOf c s e) es (step-fits c s e (g .0) f) (g .1))
+
+-- ---- from a fresh unit
+
+-- its configuration's characters, a parameter block as long as they say, and the room for records that they ask for
+module _ (cs : List ℕ) {n : ℕ} (said : n ≡ configGiven cs .block) {u bl : List ℕ} (area : List ℕ) (f : Freshly cs n u bl) (room : roomOf (configIn u) ≤ length area) where
+  module _ {es : List Event} {xs : List Shown} {y : Owned} (r : Runs (ownedOf u bl area) es xs y) where
+    ran : RunsAs (ownedOf u bl area) es xs y
+    ran = runs-as (laid-stands cs said area f room) r
+
+    -- the configuration stays the one that was given
+    pub run-config : configIn (y .unit) ≡ configGiven cs
+    run-config = ran .steady .config ∙ laid-config cs said area f
+
+    over : {A : Type 0} (g : Config → A) → g (configIn u) ≡ g (configGiven cs)
+    over g = ap g (laid-config cs said area f)
+
+    -- the state afterwards is the definition's
+    pub run-after : stateOf (configGiven cs) (keptIn y) ≡ after (configGiven cs) es
     run-after =
-        calls-after c (runs-as c (written-readable (f .kept)) r .calls) ∙ ap (λ s. afterFrom c s es) fresh-state
+        sym (over (λ c. stateOf c (keptIn y))) ∙ calls-after (configIn u) (ran .calls)
+        ∙ ap (λ s. afterFrom (configIn u) s es) (laid-state cs said area f) ∙ over (λ c. after c es)
 
-    pub run-trace : xs ≡ map numbered (resultsOf (trace c es))
+    -- what was shown is the definition's trace in numbers
+    pub run-trace : xs ≡ map numbered (resultsOf (trace (configGiven cs) es))
     run-trace =
-        let w = runs-as c (written-readable (f .kept)) r in
-        w .shown ∙ ap (map numbered) (calls-trace c (w .calls) ∙ ap (λ s. resultsOf (traceFrom c s es)) fresh-state)
+        ran .shown
+        ∙ ap (map numbered) (calls-trace (configIn u) (ran .calls) ∙ ap (λ s. resultsOf (traceFrom (configIn u) s es)) (laid-state cs said area f) ∙ over (λ c. resultsOf (trace c es)))
+
+    -- a valid configuration is never turned away by 17
+    pub run-taken : validOf (configGiven cs) ≡ true → AllGiven es → Taken xs
+    run-taken v g = subst Taken (sym run-trace) (trace-taken (configGiven cs) (freshOf (configGiven cs)) es (fresh-fits (configGiven cs) v) g)

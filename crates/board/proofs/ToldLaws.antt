@@ -1,21 +1,56 @@
 -- A turn in numbers. Assumes nothing.
-use mathlib.Core.Path.{_≡_}
-use Prim.Native.Nat.{ℕ}
+use mathlib.Core.Path.{_≡_, refl, _∙_}
+use Prim.Native.Nat.{ℕ, _/_, _%_, _≤_}
+use mathlib.Core.List.{List, [], _∷_}
 use mathlib.Core.Bool.{Bool, cond}
+use lib.ListN.{take}
+use native.Mathlib.Omega.{arith}
+use Rattle.chars.specs.Word.{wordAt}
+use Rattle.model.specs.Limits.{longestReply}
 use Rattle.model.specs.Outcome.{numberOf}
-use Rattle.model.specs.declared.Outcome.{Outcome}
 use Rattle.model.specs.declared.ControlOutput.{ControlOutput}
 use Rattle.model.specs.declared.Action.{Action}
 use Rattle.model.specs.declared.Action.the-variants.{Rest, Operate}
-use Rattle.board.specs.declared.Turned.{Turned}
-use Rattle.board.specs.Told.{actionNumber, outputNumber, turnedBy}
+use Rattle.commands.specs.declared.Made.{Made}
+use Rattle.unit.specs.Calls.{shownBy}
+use Rattle.board.specs.Told.{turnedBy, actionNumber, outputNumber}
+use Rattle.board.specs.Runs.{Shown, numbered, shownIn}
 
-module _ (sent : ℕ) (o : Outcome) {a : Action} {n : ℕ} where
-  pub shown-rest : a ≡ Rest → n ≡ numberOf o → _≡_ {A = Turned} (record { sent = sent; outcome = n; action = 0; output = 0 }) (turnedBy sent o a)
-  unfolding actionNumber outputNumber
-  shown-rest e q = rw e (λ i. record { sent = sent; outcome = q i; action = 0; output = 0 })
+-- ---- the output action
 
-  pub shown-operate : {output : ControlOutput} {close : Bool} {m : ℕ} → a ≡ Operate output close → n ≡ numberOf o → m ≡ cond close 2 1
-      → _≡_ {A = Turned} (record { sent = sent; outcome = n; action = m; output = output .0 }) (turnedBy sent o a)
-  unfolding actionNumber outputNumber
-  shown-operate {output} e q p = rw e (λ i. record { sent = sent; outcome = q i; action = p i; output = output .0 })
+module _ {a : Action} where
+  pub action-rest : a ≡ Rest → 0 ≡ actionNumber a
+  unfolding actionNumber
+  action-rest e = rw e refl
+
+  pub output-rest : a ≡ Rest → 0 ≡ outputNumber a
+  unfolding outputNumber
+  output-rest e = rw e refl
+
+  module _ {output : ControlOutput} {close : Bool} (e : a ≡ Operate output close) where
+    pub action-operate : {m : ℕ} → m ≡ cond close 2 1 → m ≡ actionNumber a
+    unfolding actionNumber
+    action-operate h = rw e h
+
+    pub output-operate : output .0 ≡ outputNumber a
+    unfolding outputNumber
+    output-operate = rw e refl
+
+-- ---- a stretch
+
+pub turned-told : (m : Made) {a b : ℕ} → a ≡ actionNumber (m .action) → b ≡ outputNumber (m .action)
+    → (m .sent % 256 ∷ m .sent / 256 % 256 ∷ a ∷ b ∷ []) ≡ turnedBy m
+turned-told m p q = λ i. m .sent % 256 ∷ m .sent / 256 % 256 ∷ p i ∷ q i ∷ []
+
+-- how many are sent stands in two characters
+sent-back : (m : Made) → m .sent ≤ longestReply → wordAt (turnedBy m) 0 ≡ m .sent
+unfolding wordAt
+sent-back m h = omega arith
+
+-- what a stretch told in numbers is its result in numbers
+pub shown-told : (m : Made) {n : ℕ} {ts : List ℕ} (exit : List ℕ) → m .sent ≤ longestReply → n ≡ numberOf (m .outcome) → ts ≡ turnedBy m
+    → shownIn n ts exit ≡ numbered (shownBy m exit)
+unfolding numbered
+shown-told m {n} {ts} exit h e t =
+    (λ i. shownIn (e i) (t i) exit)
+    ∙ (λ i. record { answer = numberOf (m .outcome); action = actionNumber (m .action); output = outputNumber (m .action); reply = take (sent-back m h i) exit })

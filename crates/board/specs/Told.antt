@@ -1,12 +1,10 @@
 -- What the calls from C promise: the entries' promises, with what is shown in numbers.
 use mathlib.Core.Path.{_≡_}
-use Prim.Native.Nat.{ℕ}
-use mathlib.Core.List.{List}
+use Prim.Native.Nat.{ℕ, _/_, _%_}
+use mathlib.Core.List.{List, [], _∷_}
 use mathlib.Core.Bool.{cond}
 use Rattle.model.specs.Outcome.{numberOf, answerNumber}
-use Rattle.model.specs.Config.{Config}
 use Rattle.model.specs.Step.{Event}
-use Rattle.model.specs.declared.Outcome.{Outcome}
 use Rattle.model.specs.declared.Answer.{Answer}
 use Rattle.model.specs.declared.Action.{Action}
 use Rattle.model.specs.declared.Action.the-variants.{Rest, Operate}
@@ -14,7 +12,6 @@ use Rattle.events.specs.Kept.{Owned}
 use Rattle.events.specs.Heed.{Tells}
 use Rattle.unit.specs.Turn.{Serves}
 use Rattle.commands.specs.declared.Made.{Made}
-use Rattle.board.specs.declared.Turned.{Turned}
 
 -- ---- a stretch
 
@@ -26,18 +23,20 @@ unfoldable pub outputNumber : Action → ℕ
 outputNumber Rest = 0
 outputNumber (Operate output close) = output .0
 
-abbrev pub turnedBy : ℕ → Outcome → Action → Turned
-turnedBy sent o a = record { sent = sent; outcome = numberOf o; action = actionNumber a; output = outputNumber a }
+-- what is turned: how many characters of the buffer are to be sent, low character first, and what the control outputs do
+abbrev pub turnedBy : Made → List ℕ
+turnedBy m = m .sent % 256 ∷ m .sent / 256 % 256 ∷ actionNumber (m .action) ∷ outputNumber (m .action) ∷ []
 
 -- the turn of the unit's entry, in numbers
-pub record Shows (c : Config) (s : List ℕ) (x y : Owned) (entry exit : List ℕ) (r : Turned) : Type 0 where
+pub record Shows (s : List ℕ) (x y : Owned) (entry exit : List ℕ) (n : ℕ) (ts : List ℕ) : Type 0 where
   pub turn : Made
-  pub serves : Serves c s x y entry exit turn
-  pub shown : r ≡ turnedBy (turn .sent) (turn .outcome) (turn .action)
+  pub serves : Serves s x y entry exit turn
+  pub number : n ≡ numberOf (turn .outcome)
+  pub told : ts ≡ turnedBy turn
 
 -- ---- time and the local events: the answer is a number
 
-pub record Says (c : Config) (e : Event) (x y : Owned) (n : ℕ) : Type 0 where
+pub record Says (e : Event) (x y : Owned) (n : ℕ) : Type 0 where
   pub answer : Answer
-  pub tells : Tells c e x y answer
+  pub tells : Tells e x y answer
   pub said : n ≡ answerNumber answer

@@ -1,14 +1,12 @@
 // Answers in the numbers that a caller in C reads.
-use super::Turned;
 use frames::outcomes::number;
 use model::Action;
 use model::Answer;
-use model::Outcome;
 use model::Stored;
 ghost use mathlib.Core.Path.{_≡_};
 ghost use mathlib.Core.Bool.{cond};
 ghost use Rattle.model.specs.Outcome.{storedNumber, answerNumber};
-ghost use Rattle.board.specs.Told.{turnedBy};
+ghost use Rattle.board.specs.Told.{actionNumber, outputNumber};
 
 fn stored_number(stored: Stored) -> u8
     ensures { λ r. ⌜ r ≡ storedNumber stored ⌝ }
@@ -30,22 +28,12 @@ pub fn answer_number(answer: Answer) -> u8
     }
 }
 
-pub fn shown(sent: usize, outcome: Outcome, action: Action) -> Turned
-    ensures { λ r. ⌜ r ≡ turnedBy sent outcome action ⌝ }
+pub fn action_number(action: Action) -> u8
+    ensures { λ r. ⌜ r ≡ actionNumber action ⌝ }
 {
     match action {
-        Action::Rest => Turned {
-            sent: sent,
-            outcome: number(outcome),
-            action: 0,
-            output: 0,
-        },
-        Action::Operate { output, close } => Turned {
-            sent: sent,
-            outcome: number(outcome),
-            action: operated(close),
-            output: output.0,
-        },
+        Action::Rest => 0,
+        Action::Operate { output, close } => operated(close),
     }
 }
 
@@ -56,4 +44,13 @@ fn operated(close: bool) -> u8
         return 2;
     }
     1
+}
+
+pub fn output_number(action: Action) -> u8
+    ensures { λ r. ⌜ r ≡ outputNumber action ⌝ }
+{
+    match action {
+        Action::Rest => 0,
+        Action::Operate { output, close } => output.0,
+    }
 }

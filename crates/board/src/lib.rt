@@ -1,293 +1,160 @@
-// The C interface: one call an event, over numbers and arrays that the caller owns. No enum crosses it, so that every pattern of
+// The C interface: one call an event, over numbers and memory that the caller owns. No enum crosses it, so that every pattern of
 // what it takes means something.
 mod answers;
 
+use answers::action_number;
 use answers::answer_number;
-use answers::shown;
+use answers::output_number;
 use frames::outcomes::number;
+use layout::CONFIG;
+use layout::CURRENT;
+use layout::UNIT;
 use model::File;
 use model::Input;
 use model::SpecialCalculation;
-ghost use mathlib.Core.List.{List};
-ghost use Prim.Native.Nat.{ℕ};
+ghost use mathlib.Core.Path.{_≡_};
+ghost use mathlib.Core.Bool.{cond};
 ghost use lib.ListN.{length};
+ghost use Rattle.model.specs.Config.{validOf};
 ghost use Rattle.model.specs.Step.{elapsed, setWord, setValue, pulses, store};
-ghost use Rattle.judge.specs.Judged.{configOf};
+ghost use Rattle.layout.specs.Unit.{layoutNumber, configGiven};
 ghost use Rattle.events.specs.Kept.{ownedOf};
 ghost use Rattle.unit.specs.Fresh.{Freshly};
 ghost use Rattle.board.specs.Told.{Shows, Says};
 
-// How a stretch ended: how many characters of the buffer are to be sent, the outcome's number, and what the control outputs do.
-#[repr(C)]
-pub struct Turned {
-    pub sent: usize,
-    pub outcome: u8,
-    pub action: u8,
-    pub output: u8,
+// The number of the layout that a unit's memory has.
+#[no_mangle]
+pub extern "C" fn osturdam_layout() -> u16
+    ensures { λ r. ⌜ r ≡ layoutNumber ⌝ }
+{
+    CURRENT
+}
+
+// 1 for a valid configuration: whether a fresh unit of it, with all that it asks for, would be taken.
+#[no_mangle]
+pub extern "C" fn osturdam_valid(config: &[u8; CONFIG]) -> u8
+    ensures { λ r. ⌜ r ≡ cond (validOf (configGiven (now (config .entry)))) 1 0 ⌝ }
+{
+    let mut unit = [0u8; UNIT];
+    let mut block = [0u8; 0];
+    unit::fresh(&mut unit, &mut block, config);
+    let long = layout::length_of(&unit) as usize;
+    let room = layout::room_of(&unit);
+    if judge::fits(&unit, long, room) {
+        return 1;
+    }
+    0
 }
 
 #[no_mangle]
-pub extern "C" fn osturdam_fresh(
-    kept: &mut [u16; 26],
-    words: &mut [u16; 256],
-    results: &mut [u32; 128],
-    fixed: &mut [u8; 528],
-    block: &mut [u8],
-    counts: &mut [u8; 32],
-)
-    ensures { λ _. ⌜ Freshly (length (now (block .entry))) (now (kept .exit)) (now (words .exit)) (now (results .exit)) (now (fixed .exit)) (now (block .exit)) (now (counts .exit)) ⌝ }
+pub extern "C" fn osturdam_fresh(unit: &mut [u8; UNIT], block: &mut [u8], config: &[u8; CONFIG])
+    ensures { λ _. ⌜ Freshly (now (config .entry)) (length (now (block .entry))) (now (unit .exit)) (now (block .exit)) ⌝ }
 {
-    unit::fresh(kept, words, results, fixed, block, counts);
+    unit::fresh(unit, block, config);
 }
 
+// How the stretch ended is the result. What is turned: how many characters of the buffer are to be sent, low character first, and what
+// the control outputs do.
 #[no_mangle]
 pub extern "C" fn osturdam_stretch<'a>(
-    unit: u16,
-    length: usize,
-    inputs: &'a [u8; 256],
-    outputs: &'a [u8; 256],
-    calculations: &'a [u8; 256],
-    files: &'a [u8; 32],
-    values: &'a [u8; 32],
-    kept: &mut [u16; 26],
-    words: &mut [u16; 256],
-    results: &'a [u32; 128],
-    fixed: &mut [u8; 528],
+    unit: &mut [u8; UNIT],
     block: &mut [u8],
-    area: &mut [u8; 38912],
-    counts: &mut [u8; 32],
+    records: &mut [u8],
     buffer: &mut [u8],
     s: &'a [u8],
-) -> Turned
-    ensures { λ r. ⌜ Shows
-        (configOf unit length (now (inputs .entry)) (now (outputs .entry)) (now (calculations .entry)) (now (files .entry)) (now (values .entry)))
-        (now (s .entry))
-        (ownedOf (now (kept .entry)) (now (words .entry)) (now (results .entry)) (now (fixed .entry)) (now (block .entry)) (now (area .entry)) (now (counts .entry)))
-        (ownedOf (now (kept .exit)) (now (words .exit)) (now (results .entry)) (now (fixed .exit)) (now (block .exit)) (now (area .exit)) (now (counts .exit)))
-        (now (buffer .entry)) (now (buffer .exit)) r ⌝ }
+    turned: &mut [u8; 4],
+) -> u8
+    ensures { λ r. ⌜ Shows (now (s .entry))
+        (ownedOf (now (unit .entry)) (now (block .entry)) (now (records .entry)))
+        (ownedOf (now (unit .exit)) (now (block .exit)) (now (records .exit)))
+        (now (buffer .entry)) (now (buffer .exit)) r (now (turned .exit)) ⌝ }
 {
-    let turn = unit::stretch(
-        unit,
-        length,
-        inputs,
-        outputs,
-        calculations,
-        files,
-        values,
-        kept,
-        words,
-        results,
-        fixed,
-        block,
-        area,
-        counts,
-        buffer,
-        s,
-    );
+    let turn = unit::stretch(unit, block, records, buffer, s);
     let outcome = turn.outcome;
     let action = turn.action;
-    shown(turn.sent, outcome, action)
+    let sent = turn.sent;
+    let low = (sent % 256) as u8;
+    let high = (sent / 256 % 256) as u8;
+    *turned = [low, high, action_number(action), output_number(action)];
+    number(outcome)
 }
 
 #[no_mangle]
 pub extern "C" fn osturdam_elapsed<'a>(
-    unit: u16,
-    length: usize,
-    inputs: &'a [u8; 256],
-    outputs: &'a [u8; 256],
-    calculations: &'a [u8; 256],
-    files: &'a [u8; 32],
-    values: &'a [u8; 32],
-    kept: &mut [u16; 26],
+    unit: &mut [u8; UNIT],
     block: &'a [u8],
-    counts: &'a [u8; 32],
+    records: &'a [u8],
     ms: u32,
 ) -> u8
-    ensures { λ r. ⌜ ((words results fixed area : List ℕ) → Says
-        (configOf unit length (now (inputs .entry)) (now (outputs .entry)) (now (calculations .entry)) (now (files .entry)) (now (values .entry)))
-        (elapsed ms)
-        (ownedOf (now (kept .entry)) words results fixed (now (block .entry)) area (now (counts .entry)))
-        (ownedOf (now (kept .exit)) words results fixed (now (block .entry)) area (now (counts .entry)))
-        r) ⌝ }
+    ensures { λ r. ⌜ Says (elapsed ms)
+        (ownedOf (now (unit .entry)) (now (block .entry)) (now (records .entry)))
+        (ownedOf (now (unit .exit)) (now (block .entry)) (now (records .entry))) r ⌝ }
 {
-    let outcome = events::elapsed(
-        unit,
-        length,
-        inputs,
-        outputs,
-        calculations,
-        files,
-        values,
-        kept,
-        block,
-        counts,
-        ms,
-    );
+    let outcome = events::elapsed(unit, block, records, ms);
     number(outcome)
 }
 
 #[no_mangle]
 pub extern "C" fn osturdam_set_word<'a>(
-    unit: u16,
-    length: usize,
-    inputs: &'a [u8; 256],
-    outputs: &'a [u8; 256],
-    calculations: &'a [u8; 256],
-    files: &'a [u8; 32],
-    values: &'a [u8; 32],
-    kept: &'a [u16; 26],
-    words: &mut [u16; 256],
+    unit: &mut [u8; UNIT],
     block: &'a [u8],
-    counts: &'a [u8; 32],
+    records: &'a [u8],
     input: u8,
     word: u16,
 ) -> u8
-    ensures { λ r. ⌜ ((results fixed area : List ℕ) → Says
-        (configOf unit length (now (inputs .entry)) (now (outputs .entry)) (now (calculations .entry)) (now (files .entry)) (now (values .entry)))
-        (setWord (record { 0 = input }) word)
-        (ownedOf (now (kept .entry)) (now (words .entry)) results fixed (now (block .entry)) area (now (counts .entry)))
-        (ownedOf (now (kept .entry)) (now (words .exit)) results fixed (now (block .entry)) area (now (counts .entry)))
-        r) ⌝ }
+    ensures { λ r. ⌜ Says (setWord (record { 0 = input }) word)
+        (ownedOf (now (unit .entry)) (now (block .entry)) (now (records .entry)))
+        (ownedOf (now (unit .exit)) (now (block .entry)) (now (records .entry))) r ⌝ }
 {
-    let outcome = events::set_word(
-        unit,
-        length,
-        inputs,
-        outputs,
-        calculations,
-        files,
-        values,
-        kept,
-        words,
-        block,
-        counts,
-        Input(input),
-        word,
-    );
+    let outcome = events::set_word(unit, block, records, Input(input), word);
     number(outcome)
 }
 
 #[no_mangle]
 pub extern "C" fn osturdam_pulses<'a>(
-    unit: u16,
-    length: usize,
-    inputs: &'a [u8; 256],
-    outputs: &'a [u8; 256],
-    calculations: &'a [u8; 256],
-    files: &'a [u8; 32],
-    values: &'a [u8; 32],
-    kept: &'a [u16; 26],
-    words: &mut [u16; 256],
+    unit: &mut [u8; UNIT],
     block: &'a [u8],
-    counts: &'a [u8; 32],
+    records: &'a [u8],
     accumulator: u8,
     count: u16,
 ) -> u8
-    ensures { λ r. ⌜ ((results fixed area : List ℕ) → Says
-        (configOf unit length (now (inputs .entry)) (now (outputs .entry)) (now (calculations .entry)) (now (files .entry)) (now (values .entry)))
-        (pulses (record { 0 = accumulator }) count)
-        (ownedOf (now (kept .entry)) (now (words .entry)) results fixed (now (block .entry)) area (now (counts .entry)))
-        (ownedOf (now (kept .entry)) (now (words .exit)) results fixed (now (block .entry)) area (now (counts .entry)))
-        r) ⌝ }
+    ensures { λ r. ⌜ Says (pulses (record { 0 = accumulator }) count)
+        (ownedOf (now (unit .entry)) (now (block .entry)) (now (records .entry)))
+        (ownedOf (now (unit .exit)) (now (block .entry)) (now (records .entry))) r ⌝ }
 {
-    let outcome = events::pulses(
-        unit,
-        length,
-        inputs,
-        outputs,
-        calculations,
-        files,
-        values,
-        kept,
-        words,
-        block,
-        counts,
-        Input(accumulator),
-        count,
-    );
+    let outcome = events::pulses(unit, block, records, Input(accumulator), count);
     number(outcome)
 }
 
 #[no_mangle]
 pub extern "C" fn osturdam_set_value<'a>(
-    unit: u16,
-    length: usize,
-    inputs: &'a [u8; 256],
-    outputs: &'a [u8; 256],
-    calculations: &'a [u8; 256],
-    files: &'a [u8; 32],
-    values: &'a [u8; 32],
-    kept: &'a [u16; 26],
-    results: &mut [u32; 128],
+    unit: &mut [u8; UNIT],
     block: &'a [u8],
-    counts: &'a [u8; 32],
+    records: &'a [u8],
     calculation: u8,
     value: u32,
 ) -> u8
-    ensures { λ r. ⌜ ((words fixed area : List ℕ) → Says
-        (configOf unit length (now (inputs .entry)) (now (outputs .entry)) (now (calculations .entry)) (now (files .entry)) (now (values .entry)))
-        (setValue (record { 0 = calculation }) value)
-        (ownedOf (now (kept .entry)) words (now (results .entry)) fixed (now (block .entry)) area (now (counts .entry)))
-        (ownedOf (now (kept .entry)) words (now (results .exit)) fixed (now (block .entry)) area (now (counts .entry)))
-        r) ⌝ }
+    ensures { λ r. ⌜ Says (setValue (record { 0 = calculation }) value)
+        (ownedOf (now (unit .entry)) (now (block .entry)) (now (records .entry)))
+        (ownedOf (now (unit .exit)) (now (block .entry)) (now (records .entry))) r ⌝ }
 {
-    let outcome = events::set_value(
-        unit,
-        length,
-        inputs,
-        outputs,
-        calculations,
-        files,
-        values,
-        kept,
-        results,
-        block,
-        counts,
-        SpecialCalculation(calculation),
-        value,
-    );
+    let outcome = events::set_value(unit, block, records, SpecialCalculation(calculation), value);
     number(outcome)
 }
 
 #[no_mangle]
 pub extern "C" fn osturdam_store_record<'a>(
-    unit: u16,
-    length: usize,
-    inputs: &'a [u8; 256],
-    outputs: &'a [u8; 256],
-    calculations: &'a [u8; 256],
-    files: &'a [u8; 32],
-    values: &'a [u8; 32],
-    kept: &mut [u16; 26],
+    unit: &mut [u8; UNIT],
     block: &'a [u8],
-    area: &mut [u8; 38912],
-    counts: &mut [u8; 32],
+    records: &mut [u8],
     file: u8,
     event: u8,
     given: &'a [u16],
 ) -> u8
-    ensures { λ r. ⌜ ((words results fixed : List ℕ) → Says
-        (configOf unit length (now (inputs .entry)) (now (outputs .entry)) (now (calculations .entry)) (now (files .entry)) (now (values .entry)))
-        (store (record { 0 = file }) event (now (given .entry)))
-        (ownedOf (now (kept .entry)) words results fixed (now (block .entry)) (now (area .entry)) (now (counts .entry)))
-        (ownedOf (now (kept .exit)) words results fixed (now (block .entry)) (now (area .exit)) (now (counts .exit)))
-        r) ⌝ }
+    ensures { λ r. ⌜ Says (store (record { 0 = file }) event (now (given .entry)))
+        (ownedOf (now (unit .entry)) (now (block .entry)) (now (records .entry)))
+        (ownedOf (now (unit .exit)) (now (block .entry)) (now (records .exit))) r ⌝ }
 {
-    let answer = events::store_record(
-        unit,
-        length,
-        inputs,
-        outputs,
-        calculations,
-        files,
-        values,
-        kept,
-        block,
-        area,
-        counts,
-        File(file),
-        event,
-        given,
-    );
+    let answer = events::store_record(unit, block, records, File(file), event, given);
     answer_number(answer)
 }

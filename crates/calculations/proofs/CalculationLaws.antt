@@ -1,10 +1,10 @@
 -- What function 03 comes to, number by number and case by case.
 -- Assumes nothing.
 use mathlib.Core.Path.{_≡_, refl, sym}
-use Prim.Native.Nat.{ℕ, zero, suc, _+_, _*_, _-_, _≤_, _<_}
+use Prim.Native.Nat.{ℕ, _+_, _*_, _≤_, _<_}
 use native.Mathlib.Omega.{arith}
 use mathlib.Core.List.{List, [], _∷_, append-nil}
-use mathlib.Core.Bool.{Bool, true, false, cond}
+use mathlib.Core.Bool.{true, false}
 use borrow.Author.Tests.{le-leb, lt-leb, eq-eqb, ne-eqb}
 use lib.ListN.{length, getD, set, length-append}
 use Rattle.chars.specs.Put.{put}
@@ -19,7 +19,7 @@ use Rattle.model.specs.Config.{hasCalculation}
 use Rattle.model.specs.Scan.{tells, refuses, withNoData}
 use Rattle.model.specs.Calculations.{fitting, valueOf, allOf, pairOf, missingOf, askedOf, calculationsOf}
 use Rattle.model.specs.declared.Outcome.the-variants.{Unknown, WrongCount, NotValid, TooLong}
-use Rattle.points.proofs.NumberLaws.{within-low, within-high, within-both, calculation-below}
+use Rattle.points.proofs.NumberLaws.{within-low, within-high, within-both}
 
 -- ---- one number
 
@@ -48,22 +48,6 @@ module _ (table : List ℕ) (n : ℕ) where
   pub missing-left : hasCalculation table n ≡ true → missingOf table n ≡ []
   unfolding missingOf
   missing-left e = simp e
-
--- ---- where no number is missing, each is below 128
-
-there : (b : Bool) (n : ℕ) → length (cond b [] (n ∷ [])) ≡ 0 → b ≡ true
-there true n z = refl
-there false n z = absurd (omega arith)
-
-missing-below : (table : List ℕ) (n : ℕ) → length (missingOf table n) ≡ 0 → n < 128
-unfolding missingOf
-missing-below table n z = calculation-below table n (there (hasCalculation table n) n z)
-
-pub none-missing : (table ns : List ℕ) → length (gather (missingOf table) ns) ≡ 0 → (i : ℕ) → i < length ns → getD ns i 0 < 128
-unfolding gather
-none-missing table [] z i h = absurd (omega arith)
-none-missing table (n ∷ ns) z zero h = missing-below table n (omega (arith, simp length-append at z))
-none-missing table (n ∷ ns) z (suc i) h = none-missing table ns (omega (arith, simp length-append at z)) i (omega arith)
 
 -- ---- counting before writing
 

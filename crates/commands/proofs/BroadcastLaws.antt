@@ -51,10 +51,10 @@ module _ (c : Config) (k : Core) (a : Areas) (q : Request) where
     broadcast-other m n = simp (f, ne-eqb _ _ m, ne-eqb _ _ n)
 
 module _ (k : Core) (a : Areas) {w : Memory} {p : Port} {ls : List ℕ} {x : StepOf} {b : Areas} {r : Step} where
-  pub stirs-reset : {y : points.Changed} {ws entry exit : List ℕ} (f : Filled) → x ≡ changed k a y → Fills entry exit (replyOf y) f → ws ≡ y .area
-      → r ≡ record { outcome = f .outcome; action = Rest; count = f .count } → Written k w p ls → b ≡ withWords a ws → Stirs x b w p ls (r .outcome)
+  pub stirs-reset : {y : points.Changed} {entry exit : List ℕ} (f : Filled) → x ≡ changed k a y → Fills entry exit (replyOf y) f
+      → r ≡ record { outcome = f .outcome; action = Rest; count = f .count } → Written k w p ls → b ≡ withWords a (y .area) → Stirs x b w p ls (r .outcome)
   unfolding changed
-  stirs-reset f z v u e n y = rw (z, e, y) (record { ended = v .ended; kept = n; areas = ap (withWords a) u })
+  stirs-reset f z v e n y = rw (z, e, y) (record { ended = v .ended; kept = n; areas = refl })
 
   pub stirs-time : {t : Timed} (o : Outcome) → x ≡ timed k a t → o ≡ t .outcome
       → r ≡ record { outcome = o; action = Rest; count = 0 } → Written (withClock k (t .clock)) w p ls → b ≡ a → Stirs x b w p ls (r .outcome)
@@ -66,21 +66,22 @@ module _ (k : Core) (a : Areas) {w : Memory} {p : Port} {ls : List ℕ} {x : Ste
   unfolding refused
   stirs-refused z e n y = rw (z, e, y) (record { ended = refl; kept = n; areas = refl })
 
-pub makes-broadcast : (k : Core) (a : Areas) (w : Memory) (p : Port) (fs : Files) (mark : Mark) (entry : List ℕ) {x : StepOf} {b : Areas} {ks ls : List ℕ} {n : Outcome} {r : MadeOf} (o : Outcome)
-    → Stirs x b w p ks n → o ≡ cond (eqb (numberOf n) 0) BroadcastDone BroadcastRefused
+pub makes-broadcast : (k : Core) (a : Areas) (w : Memory) (p : Port) (fs : Files) (mark : Mark) (entry : List ℕ) {x : StepOf} {b d : Areas} {ks ls : List ℕ} {n : Outcome} {r : MadeOf} (o : Outcome)
+    → Stirs x b w p ks n → d ≡ b → o ≡ cond (eqb (numberOf n) 0) BroadcastDone BroadcastRefused
     → r ≡ record { outcome = o; action = Rest; sent = 0 } → Written (withBroadcast (x .core) true) w p ls
-    → Makes (broadcastMade (innerOf k a w fs) x) mark b fs p ls entry entry r
+    → Makes (broadcastMade (innerOf k a w fs) x) mark d fs p ls entry entry r
 unfolding broadcastMade quiet sentChars
-makes-broadcast k a w p fs mark entry o s z e l =
+makes-broadcast k a w p fs mark entry o s y z e l =
     rw e
     (record {
       answered = ap Ended (z ∙ rw (s .ended));
       acted = refl;
       counted = refl;
       inside = omega arith;
+      small = omega arith;
       written = sym (put-none entry 0);
       kept = l;
-      areas = s .areas;
+      areas = y ∙ s .areas;
       files = refl;
     })
 
@@ -89,4 +90,4 @@ pub makes-quiet : (i : Inner) (mark : Mark) (entry : List ℕ) {p : Port} {ls : 
     → Makes (quiet (Ended o) i) mark (i .areas) (i .history .files) p ls entry entry r
 unfolding quiet sentChars
 makes-quiet i mark entry o e k =
-    rw e (record { answered = refl; acted = refl; counted = refl; inside = omega arith; written = sym (put-none entry 0); kept = k; areas = refl; files = refl })
+    rw e (record { answered = refl; acted = refl; counted = refl; inside = omega arith; small = omega arith; written = sym (put-none entry 0); kept = k; areas = refl; files = refl })

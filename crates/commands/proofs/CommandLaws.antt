@@ -1,14 +1,15 @@
 -- Functions 20h and 28h by command: the step that each comes to, and how what a function hands back makes that step. Assumes nothing.
-use mathlib.Core.Path.{_≡_, refl, sym, ap}
+use mathlib.Core.Path.{_≡_, refl, sym, ap, _∙_}
 use Prim.Native.Nat.{ℕ}
 use mathlib.Core.List.{List}
 use mathlib.Core.Bool.{false, cond}
-use lib.ListN.{length}
+use lib.ListN.{length, getD}
 use lib.Dec.{eqb}
 use borrow.Author.Tests.{ne-eqb}
 use Rattle.chars.proofs.PutLaws.{put-none}
 use Rattle.model.specs.Limits.{replyHead}
 use Rattle.model.specs.Frame.{Request}
+use Rattle.model.specs.Outcome.{numberOf}
 use Rattle.model.specs.Config.{Config}
 use Rattle.model.specs.State.{Areas, Inner}
 use Rattle.model.specs.Scan.{Scan, Fills, counts}
@@ -39,15 +40,18 @@ use Rattle.model.specs.declared.Filled.{Filled}
 use Rattle.model.specs.declared.Memory.the-variants.{Nothing}
 use Rattle.model.proofs.Conditions.{by-bool}
 use Rattle.points.specs.Answer.{replyOf}
+use Rattle.points.proofs.MeansLaws.{sets-long, reset-sets, reset-count-means}
 use Rattle.blocks.specs.Answers.{WritesAs, ExecutesAs}
 use Rattle.blocks.specs.declared.Written.{Written}
 use Rattle.blocks.specs.declared.Executed.{Executed}
 use Rattle.history.specs.Change.{stays}
+use Rattle.layout.specs.Unit.{Unit, NumbersOnly, numbersIn, unitLong, unitIn, configIn, setWords, setFixed, putWord}
+use Rattle.events.specs.Kept.{areasBy, areasIn}
 use Rattle.events.specs.Changes.{Stepped, alone, initialStep, internalStep, returnStep}
 use Rattle.model.specs.declared.Port.{Port}
 use Rattle.numbers.specs.Numbers.{Written as Kept}
 use Rattle.commands.specs.declared.Step.{Step}
-use Rattle.commands.specs.Acts.{Tame, Acts}
+use Rattle.commands.specs.Acts.{Tame, Acts, Unshifted}
 use Rattle.commands.proofs.TameLaws.{mute}
 
 -- ---- which step
@@ -122,13 +126,13 @@ module _ (i : Inner) {m : Stepped} {a : Areas} {p : Port} {ls entry exit : List 
       rw (z, e, y, x) (record { ended = refl; acted = refl; counted = refl; written = sym (put-none entry replyHead); kept = k; areas = refl; files = refl; tame = t })
 
   -- 20h/11h changes the words
-  pub acts-changed : {x : points.Changed} {ws : List ℕ} (f : Filled) → Tame (x .outcome) (x .chars) → m ≡ alone i (changed (i .core) (i .areas) x) → Fills entry exit (replyOf x) f → ws ≡ x .area
-      → r ≡ record { outcome = f .outcome; action = Rest; count = f .count } → Kept (i .core) (i .history .memory) p ls → a ≡ withWords (i .areas) ws
+  pub acts-changed : {x : points.Changed} (f : Filled) → Tame (x .outcome) (x .chars) → m ≡ alone i (changed (i .core) (i .areas) x) → Fills entry exit (replyOf x) f
+      → r ≡ record { outcome = f .outcome; action = Rest; count = f .count } → Kept (i .core) (i .history .memory) p ls → a ≡ withWords (i .areas) (x .area)
       → Acts m a (i .history .files) p ls entry exit r
   unfolding alone changed
-  acts-changed f t z w u e k y =
+  acts-changed f t z w e k y =
       rw (z, e, y)
-      (record { ended = w .ended; acted = refl; counted = w .counted; written = w .written; kept = k; areas = ap (withWords (i .areas)) u; files = refl; tame = t })
+      (record { ended = w .ended; acted = refl; counted = w .counted; written = w .written; kept = k; areas = refl; files = refl; tame = t })
 
   -- 20h/30h
   pub acts-written : {x : blocks.Written} (f : Written) → m ≡ alone i (written (i .core) (i .areas) x) → WritesAs x f → exit ≡ entry
@@ -141,10 +145,10 @@ module _ (i : Inner) {m : Stepped} {a : Areas} {p : Port} {ls entry exit : List 
       (record { ended = w .ended; acted = refl; counted = refl; written = sym (put-none entry replyHead); kept = rw (← (w .waiting)) k; areas = refl; files = refl; tame = t })
 
   -- 20h/31h
-  pub acts-executed : {x : blocks.Executed} {fx bl : List ℕ} (f : Executed) → m ≡ alone i (executed (i .core) (i .areas) x) → ExecutesAs x fx bl f → exit ≡ entry
+  pub acts-executed : {x : blocks.Executed} {u v bl : List ℕ} (f : Executed) → m ≡ alone i (executed (i .core) (i .areas) x) → ExecutesAs u x v bl f → exit ≡ entry
       → r ≡ record { outcome = f .outcome; action = Rest; count = 0 }
       → Kept (withError (withConfigure (i .core) (cond (f .configures) false (i .core .configure))) (cond (f .clears) false (i .core .error))) (i .history .memory) p ls
-      → a ≡ record { words = i .areas .words; values = i .areas .values; fixed = fx; block = bl }
+      → a ≡ record { words = i .areas .words; values = i .areas .values; fixed = x .fixed; block = bl }
       → Acts m a (i .history .files) p ls entry exit r
   unfolding alone executed
   acts-executed f z w x e k y =
@@ -156,7 +160,7 @@ module _ (i : Inner) {m : Stepped} {a : Areas} {p : Port} {ls entry exit : List 
         counted = refl;
         written = sym (put-none entry replyHead);
         kept = rw (w .configured, w .cleared) at k;
-        areas = rw (w .fixed-left, w .block-left);
+        areas = rw (w .block-left);
         files = refl;
         tame = t;
       })
@@ -185,3 +189,54 @@ module _ (i : Inner) {m : Stepped} {a : Areas} {p : Port} {ls entry exit : List 
       (λ b.
       rw (z, e, y, x, b)
       (record { ended = refl; acted = refl; counted = refl; written = sym (put-none entry replyHead); kept = rw b at k; areas = refl; files = refl; tame = mute }))
+
+-- ---- what is left of the unit's memory
+
+module _ (u : List ℕ) where
+  pub unshifted : Unshifted u u
+  unshifted = record { steady = record { layout = refl; config = refl; long = refl }; counts = refl }
+
+  pub unshifted-words : (v : List ℕ) {ws : List ℕ} → unitIn v ≡ setWords (unitIn u) ws → length v ≡ length u → Unshifted u v
+  unshifted-words v e l = record { steady = record { layout = ap (λ (x : Unit). x .layout) e; config = ap (λ (x : Unit). x .config) e; long = l }; counts = ap (λ (x : Unit). x .counts) e }
+
+  pub unshifted-fixed : (v : List ℕ) {fs : List ℕ} → unitIn v ≡ setFixed (unitIn u) fs → length v ≡ length u → Unshifted u v
+  unshifted-fixed v e l = record { steady = record { layout = ap (λ (x : Unit). x .layout) e; config = ap (λ (x : Unit). x .config) e; long = l }; counts = ap (λ (x : Unit). x .counts) e }
+
+  pub unshifted-numbers : (v : List ℕ) → NumbersOnly u v → Unshifted u v
+  unshifted-numbers v r =
+      record {
+        steady = record { layout = ap (λ (x : Unit). x .layout) (r .means); config = ap (λ (x : Unit). x .config) (r .means); long = r .long };
+        counts = ap (λ (x : Unit). x .counts) (r .means);
+      }
+
+  pub unshifted-then : (v w : List ℕ) → Unshifted u v → Unshifted v w → Unshifted u w
+  unshifted-then v w a b =
+      record {
+        steady = record { layout = b .steady .layout ∙ a .steady .layout; config = b .steady .config ∙ a .steady .config; long = b .steady .long ∙ a .steady .long };
+        counts = b .counts ∙ a .counts;
+      }
+
+  -- the areas, where only numbers were written, or with the words or the fixed area as they were left
+  pub numbers-kept : (block v : List ℕ) → NumbersOnly u v → areasIn v block ≡ areasIn u block
+  numbers-kept block v r = ap (λ (x : Unit). areasBy x block) (r .means)
+
+  pub numbers-by-words : (v : List ℕ) {ws : List ℕ} → unitIn v ≡ setWords (unitIn u) ws → numbersIn v ≡ numbersIn u
+  numbers-by-words v e = ap (λ (x : Unit). x .numbers) e
+
+  pub numbers-by-fixed : (v : List ℕ) {fs : List ℕ} → unitIn v ≡ setFixed (unitIn u) fs → numbersIn v ≡ numbersIn u
+  numbers-by-fixed v e = ap (λ (x : Unit). x .numbers) e
+
+  pub words-left : (block v : List ℕ) {ws : List ℕ} → unitIn v ≡ setWords (unitIn u) ws → areasIn v block ≡ withWords (areasIn u block) ws
+  words-left block v e = ap (λ (x : Unit). areasBy x block) e
+
+  pub fixed-left : (block v : List ℕ) {fs : List ℕ} → unitIn v ≡ setFixed (unitIn u) fs
+      → areasIn v block ≡ record { words = unitIn u .words; values = unitIn u .values; fixed = fs; block = block }
+  fixed-left block v e = ap (λ (x : Unit). areasBy x block) e
+
+  -- 20h/11h
+  pub reset-left : (q : Request) (v : List ℕ) {entry exit : List ℕ} {r : Filled} → length u ≡ unitLong
+      → Fills entry exit (replyOf (points.resetCountOf (configIn u .inputs) (unitIn u .words) q)) r × (v ≡ cond (eqb (numberOf (r .outcome)) 0) (putWord u (getD (q .body) 0 0) 0) u)
+      → (unitIn v ≡ setWords (unitIn u) (points.resetCountOf (configIn u .inputs) (unitIn u .words) q .area)) × (length v ≡ length u)
+  reset-left q v long p =
+      let w = reset-sets (points.resetCountOf (configIn u .inputs) (unitIn u .words) q) u (putWord u (getD (q .body) 0 0) 0) p in
+      (reset-count-means u long q w, sets-long _ _ _ w)

@@ -5,7 +5,7 @@ use mathlib.Core.List.{List, []}
 use mathlib.Core.Bool.{false}
 use lib.ListN.{length}
 use Rattle.chars.specs.Put.{put}
-use Rattle.model.specs.Limits.{replyHead, mostData}
+use Rattle.model.specs.Limits.{replyHead, mostData, longestReply}
 use Rattle.model.specs.Outcome.{sendingOf}
 use Rattle.model.specs.State.{Areas, Files}
 use Rattle.model.specs.Step.{Step as StepOf, Made, answered}
@@ -16,6 +16,8 @@ use Rattle.model.specs.declared.Mark.{Mark}
 use Rattle.model.specs.declared.Memory.{Memory}
 use Rattle.model.specs.declared.Port.{Port}
 use Rattle.numbers.specs.Numbers.{Written}
+use Rattle.layout.specs.Unit.{unitIn}
+use Rattle.events.specs.Kept.{Steady}
 use Rattle.events.specs.Changes.{Stepped}
 use Rattle.commands.specs.declared.Step.{Step}
 use Rattle.commands.specs.declared.Made.{Made as MadeOf}
@@ -49,7 +51,13 @@ pub record Makes (m : Made) (mark : Mark) (a : Areas) (fs : Files) (p : Port) (l
   pub acted : r .action ≡ m .action
   pub counted : r .sent ≡ length (sentChars mark (m .sent))
   pub inside : r .sent ≤ length entry
+  pub small : r .sent ≤ longestReply
   pub written : exit ≡ put entry 0 (sentChars mark (m .sent))
   pub kept : Written (m .inner .core) (m .inner .history .memory) p ls
   pub areas : a ≡ m .inner .areas
   pub files : fs ≡ m .inner .history .files
+
+-- a memory that keeps its configuration, its length and its counts of records
+pub record Unshifted (u v : List ℕ) : Type 0 where
+  pub steady : Steady u v
+  pub counts : unitIn v .counts ≡ unitIn u .counts

@@ -1,5 +1,6 @@
 // Functions 20h and 28h by command, and a broadcast, which knows two commands of 20h.
 use frames::outcomes::number;
+use layout::UNIT;
 use model::Action;
 use model::Filled;
 use model::Frame;
@@ -26,14 +27,14 @@ ghost use Prim.Native.Nat.{ℕ};
 ghost use lib.ListN.{length};
 ghost use lib.Dec.{eqb};
 ghost use Rattle.model.specs.Frame.{asked};
-ghost use Rattle.model.specs.Config.{Config};
 ghost use Rattle.model.specs.State.{Files};
 ghost use Rattle.model.specs.Clock.{clockFits};
 ghost use Rattle.model.specs.Step.{restarted, broadcastMade, broadcastOf, withClock, withWrite, withConfigure, withError};
 ghost use Rattle.numbers.specs.Numbers.{coreIn, memoryIn, portIn, readable, Written};
-ghost use Rattle.events.specs.Kept.{areasOf, innerOf};
+ghost use Rattle.layout.specs.Unit.{configIn, numbersIn, NumbersOnly};
+ghost use Rattle.events.specs.Kept.{areasIn, innerBy};
 ghost use Rattle.events.specs.Changes.{internalStep, returnStep};
-ghost use Rattle.commands.specs.Acts.{Acts, Stirs, Makes};
+ghost use Rattle.commands.specs.Acts.{Acts, Stirs, Makes, Unshifted};
 
 // What a function made of a frame for this unit, with how many characters of data stand in the buffer.
 pub struct Step {
@@ -72,13 +73,15 @@ pub fn scanned(filled: Filled) -> Step
     }
 }
 
-fn written(kept: &mut [u16; 26], done: blocks::Written) -> Step
+fn written(unit: &mut [u8; UNIT], done: blocks::Written) -> Step
     ensures { λ r. ⌜ (r ≡ record { outcome = done .outcome; action = Action.Rest; count = 0 })
-        × (readable (now (kept .entry)) ≡ true → Written (withWrite (coreIn (now (kept .entry))) (done .write)) (memoryIn (now (kept .entry))) (portIn (now (kept .entry))) (now (kept .exit))) ⌝ }
+        × (readable (numbersIn (now (unit .entry))) ≡ true → Written (withWrite (coreIn (numbersIn (now (unit .entry)))) (done .write))
+        (memoryIn (numbersIn (now (unit .entry)))) (portIn (numbersIn (now (unit .entry)))) (numbersIn (now (unit .exit)))) ⌝ }
+    ensures { λ _. ⌜ NumbersOnly (now (unit .entry)) (now (unit .exit)) ⌝ }
 {
     let outcome = done.outcome;
     let write = done.write;
-    keep_write(kept, write);
+    keep_write(unit, write);
     refused(outcome)
 }
 
@@ -91,28 +94,32 @@ fn unless(cleared: bool, bit: bool) -> bool
     bit
 }
 
-fn executed(kept: &mut [u16; 26], done: blocks::Executed) -> Step
+fn executed(unit: &mut [u8; UNIT], done: blocks::Executed) -> Step
     ensures { λ r. ⌜ (r ≡ record { outcome = done .outcome; action = Action.Rest; count = 0 })
-        × (readable (now (kept .entry)) ≡ true → Written
-        (withError (withConfigure (coreIn (now (kept .entry))) (cond (done .configures) false (coreIn (now (kept .entry)) .configure))) (cond (done .clears) false (coreIn (now (kept .entry)) .error)))
-        (memoryIn (now (kept .entry))) (portIn (now (kept .entry))) (now (kept .exit))) ⌝ }
+        × (readable (numbersIn (now (unit .entry))) ≡ true → Written
+        (withError (withConfigure (coreIn (numbersIn (now (unit .entry)))) (cond (done .configures) false (coreIn (numbersIn (now (unit .entry))) .configure)))
+        (cond (done .clears) false (coreIn (numbersIn (now (unit .entry))) .error)))
+        (memoryIn (numbersIn (now (unit .entry)))) (portIn (numbersIn (now (unit .entry)))) (numbersIn (now (unit .exit)))) ⌝ }
+    ensures { λ _. ⌜ NumbersOnly (now (unit .entry)) (now (unit .exit)) ⌝ }
 {
     let outcome = done.outcome;
-    let configure = configure_in(kept);
-    let error = error_in(kept);
-    keep_configure(kept, unless(done.configures, configure));
-    keep_error(kept, unless(done.clears, error));
+    let configure = configure_in(unit);
+    let error = error_in(unit);
+    keep_configure(unit, unless(done.configures, configure));
+    keep_error(unit, unless(done.clears, error));
     refused(outcome)
 }
 
-fn timed(kept: &mut [u16; 26], done: clock::Set) -> Step
+fn timed(unit: &mut [u8; UNIT], done: clock::Set) -> Step
     ensures { λ r. ⌜ (r ≡ record { outcome = done .outcome; action = Action.Rest; count = 0 })
-        × (readable (now (kept .entry)) ≡ true → Written (withClock (coreIn (now (kept .entry))) (done .clock)) (memoryIn (now (kept .entry))) (portIn (now (kept .entry))) (now (kept .exit))) ⌝ }
+        × (readable (numbersIn (now (unit .entry))) ≡ true → Written (withClock (coreIn (numbersIn (now (unit .entry)))) (done .clock))
+        (memoryIn (numbersIn (now (unit .entry)))) (portIn (numbersIn (now (unit .entry)))) (numbersIn (now (unit .exit)))) ⌝ }
+    ensures { λ _. ⌜ NumbersOnly (now (unit .entry)) (now (unit .exit)) ⌝ }
 {
     let outcome = done.outcome;
     let clock = done.clock;
     keep_clock(
-        kept,
+        unit,
         clock.day,
         clock.hour,
         clock.minute,
@@ -125,59 +132,67 @@ fn timed(kept: &mut [u16; 26], done: clock::Set) -> Step
 // ---- functions by command
 
 // Select, write and history reply are forgotten, and the unit is to be configured.
-fn forget(kept: &mut [u16; 26])
-    ensures { λ _. ⌜ (readable (now (kept .entry)) ≡ true → Written (restarted (coreIn (now (kept .entry)))) Memory.Nothing (portIn (now (kept .entry))) (now (kept .exit))) ⌝ }
+fn forget(unit: &mut [u8; UNIT])
+    ensures { λ _. ⌜ (readable (numbersIn (now (unit .entry))) ≡ true → Written
+        (restarted (coreIn (numbersIn (now (unit .entry))))) Memory.Nothing (portIn (numbersIn (now (unit .entry)))) (numbersIn (now (unit .exit)))) ⌝ }
+    ensures { λ _. ⌜ NumbersOnly (now (unit .entry)) (now (unit .exit)) ⌝ }
 {
-    keep_hold(kept, Hold::Free);
-    keep_write(kept, Pending::NoWrite);
-    keep_configure(kept, true);
-    keep_memory(kept, Memory::Nothing);
+    keep_hold(unit, Hold::Free);
+    keep_write(unit, Pending::NoWrite);
+    keep_configure(unit, true);
+    keep_memory(unit, Memory::Nothing);
 }
 
 // 20h/00.
-fn restart(kept: &mut [u16; 26], body: &[u8]) -> Step
+fn restart(unit: &mut [u8; UNIT], body: &[u8]) -> Step
     ensures { λ r. ⌜ (r ≡ record { outcome = cond (eqb (length (now (body .entry))) 0) Outcome.Done Outcome.WrongCount; action = Action.Rest; count = 0 })
-        × (readable (now (kept .entry)) ≡ true → Written
-        (cond (eqb (length (now (body .entry))) 0) (restarted (coreIn (now (kept .entry)))) (coreIn (now (kept .entry))))
-        (cond (eqb (length (now (body .entry))) 0) Memory.Nothing (memoryIn (now (kept .entry)))) (portIn (now (kept .entry))) (now (kept .exit))) ⌝ }
+        × (readable (numbersIn (now (unit .entry))) ≡ true → Written
+        (cond (eqb (length (now (body .entry))) 0) (restarted (coreIn (numbersIn (now (unit .entry))))) (coreIn (numbersIn (now (unit .entry)))))
+        (cond (eqb (length (now (body .entry))) 0) Memory.Nothing (memoryIn (numbersIn (now (unit .entry))))) (portIn (numbersIn (now (unit .entry)))) (numbersIn (now (unit .exit)))) ⌝ }
+    ensures { λ _. ⌜ NumbersOnly (now (unit .entry)) (now (unit .exit)) ⌝ }
 {
     if body.len() != 0 {
         return refused(Outcome::WrongCount);
     }
-    forget(kept);
+    forget(unit);
     refused(Outcome::Done)
 }
 
+// Nothing is done: an array that is lent as a slice tells its length.
+fn told_long(unit: &[u8]) {}
+
 // Function 20h.
 pub fn internal<'a>(
-    inputs: &'a [u8; 256],
-    kept: &mut [u16; 26],
-    words: &mut [u16; 256],
-    fixed: &mut [u8; 528],
+    unit: &mut [u8; UNIT],
     block: &mut [u8],
     buffer: &mut [u8],
     frame: Frame,
     body: &'a [u8],
 ) -> Step
-    ensures { λ r. ⌜ ((c : Config) (results : List ℕ) (fs : Files) → c .inputs ≡ now (inputs .entry) → readable (now (kept .entry)) ≡ true → Acts
-        (internalStep c (innerOf (coreIn (now (kept .entry))) (areasOf (now (words .entry)) results (now (fixed .entry)) (now (block .entry))) (memoryIn (now (kept .entry))) fs) (asked frame (now (body .entry))))
-        (areasOf (now (words .exit)) results (now (fixed .exit)) (now (block .exit))) fs (portIn (now (kept .entry))) (now (kept .exit)) (now (buffer .entry)) (now (buffer .exit)) r) ⌝ }
+    ensures { λ r. ⌜ ((fs : Files) → readable (numbersIn (now (unit .entry))) ≡ true → Acts
+        (internalStep (configIn (now (unit .entry)))
+        (innerBy (now (unit .entry)) (now (block .entry)) fs) (asked frame (now (body .entry))))
+        (areasIn (now (unit .exit)) (now (block .exit))) fs (portIn (numbersIn (now (unit .entry)))) (numbersIn (now (unit .exit)))
+        (now (buffer .entry)) (now (buffer .exit)) r) ⌝ }
+    ensures { λ _. ⌜ Unshifted (now (unit .entry)) (now (unit .exit)) ⌝ }
 {
+    told_long(unit);
     let command = frame.command;
     match command {
-        0x00 => restart(kept, body),
-        0x11 => scanned(points::reset_count(inputs, words, frame, body, buffer)),
+        0x00 => restart(unit, body),
+        0x11 => scanned(points::reset_count(unit, frame, body, buffer)),
         0x30 => {
-            let write = write_kept(kept);
-            written(kept, blocks::write(write, frame, body))
+            let write = write_kept(unit);
+            written(unit, blocks::write(write, frame, body))
         }
         0x31 => {
-            let write = write_kept(kept);
-            executed(kept, blocks::execute(write, frame, body, fixed, block))
+            let write = write_kept(unit);
+            let done = blocks::execute(write, frame, body, unit, block);
+            executed(unit, done)
         }
         0x38 => {
-            let clock = clock_in(kept);
-            timed(kept, clock::set_time(clock, frame, body))
+            let clock = clock_in(unit);
+            timed(unit, clock::set_time(clock, frame, body))
         }
         _ => refused(Outcome::Unknown),
     }
@@ -185,23 +200,23 @@ pub fn internal<'a>(
 
 // Function 28h.
 pub fn returned<'a>(
-    kept: &'a [u16; 26],
-    fixed: &'a [u8; 528],
+    unit: &'a [u8; UNIT],
     block: &'a [u8],
     buffer: &mut [u8],
     frame: Frame,
     body: &'a [u8],
 ) -> Step
-    requires { ⌜ clockFits (coreIn (now kept) .clock) ≡ true ⌝ }
-    ensures { λ r. ⌜ ((words results : List ℕ) (fs : Files) → readable (now (kept .entry)) ≡ true → Acts
-        (returnStep (innerOf (coreIn (now (kept .entry))) (areasOf words results (now (fixed .entry)) (now (block .entry))) (memoryIn (now (kept .entry))) fs) (asked frame (now (body .entry))))
-        (areasOf words results (now (fixed .entry)) (now (block .entry))) fs (portIn (now (kept .entry))) (now (kept .entry)) (now (buffer .entry)) (now (buffer .exit)) r) ⌝ }
+    requires { ⌜ clockFits (coreIn (numbersIn (now unit)) .clock) ≡ true ⌝ }
+    ensures { λ r. ⌜ ((fs : Files) → readable (numbersIn (now (unit .entry))) ≡ true → Acts
+        (returnStep (innerBy (now (unit .entry)) (now (block .entry)) fs) (asked frame (now (body .entry))))
+        (areasIn (now (unit .entry)) (now (block .entry))) fs (portIn (numbersIn (now (unit .entry)))) (numbersIn (now (unit .entry)))
+        (now (buffer .entry)) (now (buffer .exit)) r) ⌝ }
 {
     let command = frame.command;
     match command {
-        0x30 => scanned(blocks::read(fixed, block, frame, body, buffer)),
+        0x30 => scanned(blocks::read(unit, block, frame, body, buffer)),
         0x31 => {
-            let clock = clock_in(kept);
+            let clock = clock_in(unit);
             scanned(clock::read_time(clock, frame, body, buffer))
         }
         _ => refused(Outcome::Unknown),
@@ -211,27 +226,23 @@ pub fn returned<'a>(
 // ---- a broadcast
 
 // Two commands of function 20h only; what they would echo goes nowhere.
-fn broadcast_step<'a>(
-    inputs: &'a [u8; 256],
-    kept: &mut [u16; 26],
-    words: &mut [u16; 256],
-    frame: Frame,
-    body: &'a [u8],
-) -> Step
-    ensures { λ r. ⌜ ((c : Config) (results fixed block : List ℕ) → c .inputs ≡ now (inputs .entry) → readable (now (kept .entry)) ≡ true → Stirs
-        (broadcastOf c (coreIn (now (kept .entry))) (areasOf (now (words .entry)) results fixed block) (asked frame (now (body .entry))))
-        (areasOf (now (words .exit)) results fixed block) (memoryIn (now (kept .entry))) (portIn (now (kept .entry))) (now (kept .exit)) (r .outcome)) ⌝ }
+fn broadcast_step<'a>(unit: &mut [u8; UNIT], frame: Frame, body: &'a [u8]) -> Step
+    ensures { λ r. ⌜ ((block : List ℕ) → readable (numbersIn (now (unit .entry))) ≡ true → Stirs
+        (broadcastOf (configIn (now (unit .entry))) (coreIn (numbersIn (now (unit .entry)))) (areasIn (now (unit .entry)) block) (asked frame (now (body .entry))))
+        (areasIn (now (unit .exit)) block) (memoryIn (numbersIn (now (unit .entry)))) (portIn (numbersIn (now (unit .entry)))) (numbersIn (now (unit .exit))) (r .outcome)) ⌝ }
+    ensures { λ _. ⌜ Unshifted (now (unit .entry)) (now (unit .exit)) ⌝ }
 {
+    told_long(unit);
     if frame.function == 0x20 {
         let command = frame.command;
         return match command {
             0x11 => {
                 let mut spare: [u8; 8] = [0; 8];
-                scanned(points::reset_count(inputs, words, frame, body, &mut spare))
+                scanned(points::reset_count(unit, frame, body, &mut spare))
             }
             0x38 => {
-                let clock = clock_in(kept);
-                timed(kept, clock::set_time(clock, frame, body))
+                let clock = clock_in(unit);
+                timed(unit, clock::set_time(clock, frame, body))
             }
             _ => refused(Outcome::Unknown),
         };
@@ -251,21 +262,16 @@ pub fn quiet(outcome: Outcome) -> Made
 }
 
 // It is never answered, and sets bit 2.
-pub fn broadcast<'a>(
-    inputs: &'a [u8; 256],
-    kept: &mut [u16; 26],
-    words: &mut [u16; 256],
-    frame: Frame,
-    body: &'a [u8],
-) -> Made
-    ensures { λ r. ⌜ ((c : Config) (results fixed block : List ℕ) (fs : Files) (mark : Mark) (entry : List ℕ) → c .inputs ≡ now (inputs .entry) → readable (now (kept .entry)) ≡ true → Makes
-        (broadcastMade (innerOf (coreIn (now (kept .entry))) (areasOf (now (words .entry)) results fixed block) (memoryIn (now (kept .entry))) fs)
-        (broadcastOf c (coreIn (now (kept .entry))) (areasOf (now (words .entry)) results fixed block) (asked frame (now (body .entry)))))
-        mark (areasOf (now (words .exit)) results fixed block) fs (portIn (now (kept .entry))) (now (kept .exit)) entry entry r) ⌝ }
+pub fn broadcast<'a>(unit: &mut [u8; UNIT], frame: Frame, body: &'a [u8]) -> Made
+    ensures { λ r. ⌜ ((block : List ℕ) (fs : Files) (mark : Mark) (entry : List ℕ) → readable (numbersIn (now (unit .entry))) ≡ true → Makes
+        (broadcastMade (innerBy (now (unit .entry)) block fs)
+        (broadcastOf (configIn (now (unit .entry))) (coreIn (numbersIn (now (unit .entry)))) (areasIn (now (unit .entry)) block) (asked frame (now (body .entry)))))
+        mark (areasIn (now (unit .exit)) block) fs (portIn (numbersIn (now (unit .entry)))) (numbersIn (now (unit .exit))) entry entry r) ⌝ }
+    ensures { λ _. ⌜ Unshifted (now (unit .entry)) (now (unit .exit)) ⌝ }
 {
-    let step = broadcast_step(inputs, kept, words, frame, body);
+    let step = broadcast_step(unit, frame, body);
     let outcome = step.outcome;
-    keep_broadcast(kept, true);
+    keep_broadcast(unit, true);
     if number(outcome) == 0 {
         return quiet(Outcome::BroadcastDone);
     }

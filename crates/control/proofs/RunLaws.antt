@@ -1,11 +1,10 @@
 -- Laws of control requests: one that says nothing leaves the reply buffer, and which requests those are.
 use mathlib.Core.Path.{_≡_, refl, sym, _∙_}
 use Prim.Native.Nat.{ℕ}
-use mathlib.Core.List.{List, [], _∷_}
+use mathlib.Core.List.{List, []}
 use mathlib.Core.Bool.{Bool, true, false, cond, not}
 use lib.ListN.{length, getD}
-use borrow.Author.Tests.{eq-eqb, ne-eqb}
-use Rattle.chars.specs.Put.{put}
+use borrow.Author.Tests.{eq-eqb}
 use Rattle.chars.proofs.PutLaws.{put-none}
 use Rattle.model.specs.Limits.{replyHead}
 use Rattle.model.specs.Frame.{Request, masterOf}
@@ -52,16 +51,16 @@ reset-silent Free = refl
 reset-silent (TimedOut p) = refl
 reset-silent (Held s) = refl
 
--- a request to select: the number is read as an index into the table
-module _ (table : List ℕ) (h : Hold) (q : Request) (close : Bool) (i : ℕ) (one : length (q .body) ≡ 1) (at : i ≡ getD (q .body) 0 0) where
-  pub select-none : getD table i 0 ≡ 0 → selectOf table h q close ≡ keeps NotValid h
-  unfolding selectOf counts has
-  select-none z = rw (← at) (simp (eq-eqb (length (q .body)) 1 one, eq-eqb (getD table i 0) 0 z))
+-- a request to select one number
+module _ (table : List ℕ) (h : Hold) (q : Request) (close : Bool) (one : length (q .body) ≡ 1) where
+  pub select-none : has table (getD (q .body) 0 0) ≡ false → selectOf table h q close ≡ keeps NotValid h
+  unfolding selectOf counts
+  select-none e = simp (eq-eqb _ _ one, e)
 
-  pub select-one : (m : Master) (n : ℕ) → m ≡ masterOf (q .address) → n ≡ getD (q .body) 0 0 → (getD table i 0 ≡ 0 → ⊥)
-      → selectOf table h q close ≡ selectWhen h m n close
-  unfolding selectOf counts has
-  select-one m n e f z = rw (e, f, ← at) (simp (eq-eqb (length (q .body)) 1 one, ne-eqb (getD table i 0) 0 z))
+  pub select-one : (m : Master) → m ≡ masterOf (q .address) → has table (getD (q .body) 0 0) ≡ true
+      → selectOf table h q close ≡ selectWhen h m (getD (q .body) 0 0) close
+  unfolding selectOf counts
+  select-one m f e = rw f (simp (eq-eqb _ _ one, e))
 
 -- an operate of a master m, where a test told whether it is the master p
 module _ (h : Hold) (m p : Master) (b : Bool) (test : b ≡ isOf p m) where

@@ -1,5 +1,7 @@
 // Function 10h: select and operate, over the unit's one select; what breaks it off, and how it ages.
 use frames::master_of;
+use layout::UNIT;
+use layout::has_output;
 use model::Action;
 use model::ControlOutput;
 use model::Frame;
@@ -9,9 +11,9 @@ use model::Outcome;
 use model::Reply;
 use model::Select;
 ghost use mathlib.Core.Path.{_≡_};
-ghost use Rattle.model.specs.Frame.{asked, masterOf};
-ghost use Rattle.model.specs.Config.{has};
+ghost use Rattle.model.specs.Frame.{asked};
 ghost use Rattle.model.specs.Control.{isOf, keeps, takes, selectWhen, operateWhen, resetWhen, selectOf, controlOf, operates, breaks, heldAfter};
+ghost use Rattle.layout.specs.Unit.{configIn};
 ghost use Rattle.control.specs.Runs.{Runs, ranOf};
 
 // How a control request ended: one action or none, the select after it, and how many characters of data stand in the reply buffer.
@@ -40,21 +42,21 @@ fn same(m: Master, n: Master) -> bool
     m.0 == n.0
 }
 
-fn take(m: Master, n: u8, close: bool, reply: &mut [u8]) -> Ran
-    ensures { λ r. ⌜ Runs (now (reply .entry)) (now (reply .exit)) (takes m n close) r ⌝ }
+fn take(m: Master, n: ControlOutput, close: bool, reply: &mut [u8]) -> Ran
+    ensures { λ r. ⌜ Runs (now (reply .entry)) (now (reply .exit)) (takes m (n .0) close) r ⌝ }
 {
-    chars::put_char(reply, Reply::HEAD, n);
+    chars::put_char(reply, Reply::HEAD, n.0);
     Ran {
         outcome: Outcome::Done,
         action: Action::Rest,
-        hold: Hold::Held(Select::new(m, ControlOutput(n), close)),
+        hold: Hold::Held(Select::new(m, n, close)),
         count: 1,
     }
 }
 
 // A select that is held refuses every other; a timed-out mark gives way.
-fn select_when(hold: Hold, m: Master, n: u8, close: bool, reply: &mut [u8]) -> Ran
-    ensures { λ r. ⌜ Runs (now (reply .entry)) (now (reply .exit)) (selectWhen hold m n close) r ⌝ }
+fn select_when(hold: Hold, m: Master, n: ControlOutput, close: bool, reply: &mut [u8]) -> Ran
+    ensures { λ r. ⌜ Runs (now (reply .entry)) (now (reply .exit)) (selectWhen hold m (n .0) close) r ⌝ }
 {
     match hold {
         Hold::Free => take(m, n, close, reply),
@@ -64,24 +66,24 @@ fn select_when(hold: Hold, m: Master, n: u8, close: bool, reply: &mut [u8]) -> R
 }
 
 fn select(
-    table: &[u8; 256],
+    unit: &[u8; UNIT],
     hold: Hold,
     frame: Frame,
     body: &[u8],
     close: bool,
     reply: &mut [u8],
 ) -> Ran
-    ensures { λ r. ⌜ Runs (now (reply .entry)) (now (reply .exit)) (selectOf (now (table .entry)) hold (asked frame (now (body .entry))) close) r ⌝ }
+    ensures { λ r. ⌜ Runs (now (reply .entry)) (now (reply .exit))
+        (selectOf (configIn (now (unit .entry)) .outputs) hold (asked frame (now (body .entry))) close) r ⌝ }
 {
     if body.len() != 1 {
         return kept(Outcome::WrongCount, hold);
     }
-    let n = body[0];
-    let i = chars::wide(n);
-    if table[i] == 0 {
-        return kept(Outcome::NotValid, hold);
+    let n = ControlOutput(body[0]);
+    if has_output(unit, n) {
+        return select_when(hold, master_of(frame.address), n, close, reply);
     }
-    select_when(hold, master_of(frame.address), n, close, reply)
+    kept(Outcome::NotValid, hold)
 }
 
 // Only the select's own master operates, and the select is gone; only its own master clears a timed-out mark.
@@ -125,13 +127,14 @@ fn reset(hold: Hold) -> Ran
     }
 }
 
-pub fn control(table: &[u8; 256], hold: Hold, frame: Frame, body: &[u8], reply: &mut [u8]) -> Ran
-    ensures { λ r. ⌜ Runs (now (reply .entry)) (now (reply .exit)) (controlOf (now (table .entry)) hold (asked frame (now (body .entry)))) r ⌝ }
+pub fn control(unit: &[u8; UNIT], hold: Hold, frame: Frame, body: &[u8], reply: &mut [u8]) -> Ran
+    ensures { λ r. ⌜ Runs (now (reply .entry)) (now (reply .exit))
+        (controlOf (configIn (now (unit .entry)) .outputs) hold (asked frame (now (body .entry)))) r ⌝ }
 {
     let command = frame.command;
     match command {
-        0x10 => select(table, hold, frame, body, false, reply),
-        0x11 => select(table, hold, frame, body, true, reply),
+        0x10 => select(unit, hold, frame, body, false, reply),
+        0x11 => select(unit, hold, frame, body, true, reply),
         0x20 => {
             if body.len() != 0 {
                 return kept(Outcome::WrongCount, hold);

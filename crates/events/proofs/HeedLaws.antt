@@ -3,11 +3,10 @@ use mathlib.Core.Path.{_≡_, refl, sym, ap, _∙_}
 use Prim.Native.Nat.{ℕ}
 use mathlib.Core.List.{List}
 use mathlib.Core.Bool.{true, false}
-use lib.ListN.{length}
 use Rattle.model.specs.Config.{Config}
 use Rattle.model.specs.State.{Inner}
 use Rattle.model.specs.Inputs as points
-use Rattle.model.specs.History.{recordChars}
+use Rattle.model.specs.History.{recordChars, storedAs}
 use Rattle.model.specs.Step.{
   Event,
   elapsed,
@@ -36,17 +35,17 @@ use Rattle.model.specs.declared.Record.{Record}
 use Rattle.model.specs.declared.Core.{Core}
 use Rattle.model.specs.declared.Port.{Port}
 use Rattle.model.proofs.TurnedAway.{unfit-away, works}
-use Rattle.points.specs.Answer.{Sets}
-use Rattle.history.specs.Change.{stays, applied, areaAfter, countsAfter, Changed, addedBy}
-use Rattle.history.specs.Keep.{Keeps}
-use Rattle.history.proofs.FitsLaws.{kept-as, keeps-files}
+use Rattle.history.specs.Change.{stays, applied, areaAfter, countsAfter, addedBy}
+use Rattle.history.specs.Keep.{recordKept}
+use Rattle.history.specs.Layout.{filesIn}
+use Rattle.history.proofs.FitsLaws.{kept-as}
 use Rattle.events.specs.Kept.{Kept, keptOf, innerOf, stateOf}
 use Rattle.events.specs.Changes.{changeMade, changeOf}
-use Rattle.events.specs.Heed.{Heeds, notedIn}
+use Rattle.events.specs.Heed.{Shifted, Heeds, notedIn}
 use Rattle.events.proofs.FitLaws.{in-range}
 
 -- nothing is changed
-pub still : (area held : List ℕ) → Changed stays area held area held
+pub still : (area held : List ℕ) → Shifted stays area held area held
 unfolding areaAfter countsAfter
 still area held = record { moved = refl; counted = refl }
 
@@ -64,7 +63,7 @@ module _ (c : Config) (k : Kept) where
 
     heeds-made : {a : Answer} {l : Kept} (m : Made) → fits c (stateOf c k) ≡ true → makeOf c (stateOf c k .inner) e ≡ m
         → a ≡ m .answer → stateOf c l ≡ moves (k .port) e m
-        → Changed (changeMade c (stateOf c k .inner) e) (k .area) (k .counts) (l .area) (l .counts) → Heeds c e k l a
+        → Shifted (changeMade c (stateOf c k .inner) e) (k .area) (k .counts) (l .area) (l .counts) → Heeds c e k l a
     unfolding shows changeOf
     heeds-made m b z a n ch =
         let w = works c (stateOf c k) e s b in
@@ -76,18 +75,18 @@ module _ (c : Config) (k : Kept) where
 
     -- an event on one point: the port stays, and so do the files
     module _ (b : fits c (stateOf c k) ≡ true) (p : (m : Made) → portAfter (k .port) e m ≡ k .port)
-        (st : changeMade c (stateOf c k .inner) e ≡ stays) {m : points.Changed} {xs : List ℕ} {r : Outcome} (w : Sets m xs r) where
+        (st : changeMade c (stateOf c k .inner) e ≡ stays) (m : points.Changed) {r : Outcome} (w : r ≡ m .outcome) where
       pub heeds-word : makeOf c (stateOf c k .inner) e ≡ wordMade (stateOf c k .inner) m
-          → Heeds c e k (keptOf (k .core) (k .memory) (k .port) xs (k .results) (k .fixed) (k .block) (k .area) (k .counts)) (Ended r)
+          → Heeds c e k (keptOf (k .core) (k .memory) (k .port) (m .area) (k .results) (k .fixed) (k .block) (k .area) (k .counts)) (Ended r)
       unfolding moves wordMade localMade quiet
       heeds-word z =
-          heeds-made (wordMade (stateOf c k .inner) m) b z (ap Ended (w .ended)) (rw (w .area, p)) (rw st (still (k .area) (k .counts)))
+          heeds-made (wordMade (stateOf c k .inner) m) b z (ap Ended w) (rw p) (rw st (still (k .area) (k .counts)))
 
       pub heeds-value : makeOf c (stateOf c k .inner) e ≡ valueMade (stateOf c k .inner) m
-          → Heeds c e k (keptOf (k .core) (k .memory) (k .port) (k .words) xs (k .fixed) (k .block) (k .area) (k .counts)) (Ended r)
+          → Heeds c e k (keptOf (k .core) (k .memory) (k .port) (k .words) (m .area) (k .fixed) (k .block) (k .area) (k .counts)) (Ended r)
       unfolding moves valueMade localMade quiet
       heeds-value z =
-          heeds-made (valueMade (stateOf c k .inner) m) b z (ap Ended (w .ended)) (rw (w .area, p)) (rw st (still (k .area) (k .counts)))
+          heeds-made (valueMade (stateOf c k .inner) m) b z (ap Ended w) (rw p) (rw st (still (k .area) (k .counts)))
 
   -- time moves the core and the port
   pub heeds-time : (ms : ℕ) {core : Core} {port : Port} → fits c (stateOf c k) ≡ true → core ≡ coreAfter (k .core) ms → port ≡ silentAfter (k .port) ms
@@ -106,15 +105,15 @@ module _ (c : Config) (k : Kept) where
   stored-inner i f ys WrongValues = refl
 
   pub heeds-store : (f : File) (event : ℕ) (vs : List ℕ) {r : Stored} {area counts : List ℕ} {core : Core} → fits c (stateOf c k) ≡ true
-      → length (k .area) ≡ 38912 → length (k .counts) ≡ 32
-      → Keeps (c .files) (c .values) (record { event = event; clock = k .core .clock }) (f .0) vs (k .area) (k .counts) r area counts → core ≡ notedIn r (k .core)
+      → r ≡ storedAs (c .files) (c .values) (stateOf c k .inner .history .files) (f .0) vs
+      → filesIn (c .values) area counts ≡ applied (addedBy r (f .0) (recordChars (record { event = event; clock = k .core .clock }) vs)) (stateOf c k .inner .history .files)
+      → Shifted (addedBy r (f .0) (recordKept (record { event = event; clock = k .core .clock }) vs)) (k .area) (k .counts) area counts → core ≡ notedIn r (k .core)
       → Heeds c (store f event vs) k (keptOf core (k .memory) (k .port) (k .words) (k .results) (k .fixed) (k .block) area counts) (Storing r)
   unfolding short makeOf moves portAfter changeMade quiet
-  heeds-store f event vs {r} b room long w x =
+  heeds-store f event vs {r} b o fl w x =
       let i : Inner = stateOf c k .inner in
       let g = in-range c (stateOf c k) b in
       let rec : Record = record { event = event; clock = k .core .clock } in
       let m : Made = quiet (Storing r) (innerOf (notedIn r (i .core)) (i .areas) (i .history .memory) (applied (addedBy r (f .0) (recordChars rec vs)) (i .history .files))) in
-      heeds-made (store f event vs) refl m b (rw (← (w .ended)) (stored-inner i (f .0) (recordChars rec vs) r)) refl
-      (rw (x, keeps-files c (k .area) (k .counts) (k .memory) (g .valid) (g .history) room long w (g .clock)))
-      (rw (← (w .ended), ← (kept-as rec vs (g .clock))) (w .changed))
+      heeds-made (store f event vs) refl m b (rw (← o) (stored-inner i (f .0) (recordChars rec vs) r)) refl (rw (x, fl))
+      (rw (← o, ← (kept-as rec vs (g .clock))) w)

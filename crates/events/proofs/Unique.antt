@@ -2,15 +2,19 @@
 -- Assumes nothing.
 use mathlib.Core.Path.{_≡_, sym, ap, _∙_}
 use mathlib.Core.Bool.{true}
+use lib.ListN.{length}
+use Rattle.chars.specs.Word.{Characters}
 use Rattle.model.specs.Config.{Config}
 use Rattle.model.specs.State.{State}
 use Rattle.model.specs.Step.{Event}
 use Rattle.model.specs.declared.Answer.{Answer}
 use Rattle.model.proofs.Conditions.{by-bool}
-use Rattle.numbers.specs.Numbers.{readable}
 use Rattle.numbers.proofs.NumbersLaws.{readable-one}
-use Rattle.events.specs.Kept.{Kept, stateOf, Owned, keptIn}
+use Rattle.layout.specs.Unit.{unitLong, unitIn, configIn, numbersIn}
+use Rattle.layout.proofs.UnitOne.{unit-one}
+use Rattle.events.specs.Kept.{Kept, stateOf, Owned, keptIn, standing}
 use Rattle.events.specs.Heed.{Heeds, Tells}
+use Rattle.events.proofs.FitLaws.{stands-readable}
 
 -- all that is kept follows from the state, and from the lent characters and counts of the files
 pub kept-same : (c : Config) (l m : Kept) → stateOf c l ≡ stateOf c m → l .area ≡ m .area → l .counts ≡ m .counts → l ≡ m
@@ -33,25 +37,20 @@ one-heed c e k l m a b x y = (
   kept-same c l m (x .next ∙ sym (y .next)) (x .changed .moved ∙ sym (y .changed .moved)) (x .changed .counted ∙ sym (y .changed .counted)),
 )
 
--- what is owned follows from the unit that it means
-pub owned-same : (y z : Owned) → readable (y .numbers) ≡ true → readable (z .numbers) ≡ true → keptIn y ≡ keptIn z → y ≡ z
-owned-same y z a b e =
-    let n = readable-one (y .numbers) (z .numbers) a b (ap (λ (k : Kept). k .core) e) (ap (λ (k : Kept). k .memory) e) (ap (λ (k : Kept). k .port) e) in
-    λ i. record {
-      numbers = n i;
-      words = e i .words;
-      results = e i .results;
-      fixed = e i .fixed;
-      block = e i .block;
-      area = e i .area;
-      counts = e i .counts;
-    }
+-- what is owned follows from the unit that it means, as its memory is characters
+pub owned-same : (y z : Owned) → length (y .unit) ≡ unitLong → length (z .unit) ≡ unitLong → Characters (y .unit) → Characters (z .unit)
+    → standing y ≡ true → standing z ≡ true → unitIn (y .unit) .layout ≡ unitIn (z .unit) .layout → configIn (y .unit) ≡ configIn (z .unit) → keptIn y ≡ keptIn z → y ≡ z
+owned-same y z l m p q a b t c e =
+    let n = readable-one (numbersIn (y .unit)) (numbersIn (z .unit)) (stands-readable y a) (stands-readable z b) (ap (λ (k : Kept). k .core) e) (ap (λ (k : Kept). k .memory) e) (ap (λ (k : Kept). k .port) e) in
+    let u = unit-one (y .unit) (z .unit) l m p q (λ i. record { layout = t i; config = c i; numbers = n i; words = e i .words; values = e i .results; fixed = e i .fixed; counts = e i .counts }) in
+    λ i. record { unit = u i; block = e i .block; area = e i .area }
 
--- elapsed, set_word, set_value, pulses, store_record
-pub one-telling : (c : Config) (e : Event) (x y z : Owned) {a b : Answer} → Tells c e x y a → Tells c e x z b → (a ≡ b) × (y ≡ z)
-one-telling c e x y z {a} {b} t u =
-    by-bool (readable (x .numbers))
-    (λ q. let v = t .read q in let w = u .read q in
-    let h = one-heed c e (keptIn x) (keptIn y) (keptIn z) a b (v .heeds) (w .heeds) in
-    (h .0, owned-same y z (v .stand) (w .stand) (h .1)))
-    (λ q. let v = t .unread q in let w = u .unread q in (v .0 ∙ sym (w .0), v .1 ∙ sym (w .1)))
+-- elapsed, set_word, set_value, pulses, store_record: a memory that was lent is characters, as long as a unit
+pub one-telling : (e : Event) (x y z : Owned) {a b : Answer} → length (x .unit) ≡ unitLong → Characters (y .unit) → Characters (z .unit)
+    → Tells e x y a → Tells e x z b → (a ≡ b) × (y ≡ z)
+one-telling e x y z {a} {b} l p q t u =
+    by-bool (standing x)
+    (λ s. let v = t .read s in let w = u .read s in
+    let h = one-heed (configIn (x .unit)) e (keptIn x) (keptIn y) (keptIn z) a b (v .heeds) (w .heeds) in
+    (h .0, owned-same y z (v .steady .long ∙ l) (w .steady .long ∙ l) p q (v .stand) (w .stand) (v .steady .layout ∙ sym (w .steady .layout)) (v .steady .config ∙ sym (w .steady .config)) (h .1)))
+    (λ s. let v = t .unread s in let w = u .unread s in (v .0 ∙ sym (w .0), v .1 ∙ sym (w .1)))

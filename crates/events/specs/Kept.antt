@@ -1,13 +1,18 @@
--- All that a unit keeps: the numbers and lists that its owner lends, what they mean, and the definition's state for which that stands.
+-- All that a unit keeps: what its owner lends, what that means, and the definition's state for which it stands.
+use mathlib.Core.Path.{_≡_}
 use Prim.Native.Nat.{ℕ}
 use mathlib.Core.List.{List}
+use mathlib.Core.Bool.{Bool, _&&_}
+use lib.ListN.{length}
+use lib.Dec.{eqb, leb}
 use Rattle.model.specs.Config.{Config}
 use Rattle.model.specs.State.{Areas, Files, Inner, State}
 use Rattle.model.specs.declared.Core.{Core}
 use Rattle.model.specs.declared.Memory.{Memory}
 use Rattle.model.specs.declared.Port.{Port}
 use Rattle.history.specs.Layout.{filesIn}
-use Rattle.numbers.specs.Numbers.{coreIn, memoryIn, portIn}
+use Rattle.numbers.specs.Numbers.{coreIn, memoryIn, portIn, readable}
+use Rattle.layout.specs.Unit.{Unit, layoutNumber, unitIn, configIn, numbersIn, roomOf}
 
 pub record Kept : Type 0 where
   pub core : Core
@@ -38,21 +43,49 @@ stateOf c k =
       port = k .port;
     }
 
--- all of a unit that its caller owns: the numbers, and the lists that are lent
+-- ---- what is lent
+
+-- the areas of a unit's memory and its parameter block
+abbrev pub areasBy : Unit → List ℕ → Areas
+areasBy x block = areasOf (x .words) (x .values) (x .fixed) block
+
+abbrev pub areasIn : List ℕ → List ℕ → Areas
+areasIn u block = areasBy (unitIn u) block
+
+-- the records in the lent characters
+abbrev pub heldIn : List ℕ → List ℕ → Files
+heldIn u area = filesIn (configIn u .values) area (unitIn u .counts)
+
+-- all that is kept but the port: the memory, the parameter block, and the records or the characters of records
+abbrev pub innerBy : List ℕ → List ℕ → Files → Inner
+innerBy u block fs = innerOf (coreIn (numbersIn u)) (areasIn u block) (memoryIn (numbersIn u)) fs
+
+abbrev pub innerIn : List ℕ → List ℕ → List ℕ → Inner
+innerIn u block area = innerBy u block (heldIn u area)
+
+-- all of a unit that its caller owns
 pub record Owned : Type 0 where
-  pub numbers : List ℕ
-  pub words : List ℕ
-  pub results : List ℕ
-  pub fixed : List ℕ
+  pub unit : List ℕ
   pub block : List ℕ
   pub area : List ℕ
-  pub counts : List ℕ
 
-abbrev pub ownedOf : List ℕ → List ℕ → List ℕ → List ℕ → List ℕ → List ℕ → List ℕ → Owned
-ownedOf numbers words results fixed block area counts =
-    record { numbers = numbers; words = words; results = results; fixed = fixed; block = block; area = area; counts = counts }
+abbrev pub ownedOf : List ℕ → List ℕ → List ℕ → Owned
+ownedOf unit block area = record { unit = unit; block = block; area = area }
 
 -- the unit that it means
+abbrev pub keptBy : Core → Memory → Port → Unit → List ℕ → List ℕ → Kept
+keptBy core memory port x block area = keptOf core memory port (x .words) (x .values) (x .fixed) block area (x .counts)
+
 abbrev pub keptIn : Owned → Kept
 keptIn x =
-    keptOf (coreIn (x .numbers)) (memoryIn (x .numbers)) (portIn (x .numbers)) (x .words) (x .results) (x .fixed) (x .block) (x .area) (x .counts)
+    keptBy (coreIn (numbersIn (x .unit))) (memoryIn (numbersIn (x .unit))) (portIn (numbersIn (x .unit))) (unitIn (x .unit)) (x .block) (x .area)
+
+-- a memory of this layout, room for records as long as the configuration asks, and numbers such as a unit writes
+unfoldable pub standing : Owned → Bool
+standing x = eqb (unitIn (x .unit) .layout) layoutNumber && (leb (roomOf (configIn (x .unit))) (length (x .area)) && readable (numbersIn (x .unit)))
+
+-- a memory that keeps its layout, its configuration and its length
+pub record Steady (u v : List ℕ) : Type 0 where
+  pub layout : unitIn v .layout ≡ unitIn u .layout
+  pub config : configIn v ≡ configIn u
+  pub long : length v ≡ length u

@@ -10,20 +10,12 @@ use lib.Dec.{leb}
 use borrow.Author.Tests.{leb-true, le-leb, lt-leb}
 use Rattle.chars.specs.Put.{put, part}
 use Rattle.chars.specs.Word.{word}
-use Rattle.chars.proofs.PutLaws.{length-put, put-none, put-under, put-then, take-put-front, length-part}
+use Rattle.chars.proofs.PutLaws.{put-own, length-put, put-none, put-under, put-then, take-put-front, length-part}
 use Rattle.chars.proofs.WordLaws.{length-word}
 use Rattle.checkword.specs.Check.{checkOf}
 use Rattle.model.specs.Frame.{withCheck, headChars, replyChars}
 use Rattle.model.specs.declared.Reply.{Reply}
 use Rattle.frames.specs.Framed.{framedIn}
-
--- what is there already, written over itself
-put-own : (xs : List ℕ) (at n : ℕ) → put xs at (part xs at n) ≡ xs
-unfolding put part
-put-own [] at n = refl
-put-own (x ∷ xs) zero zero = refl
-put-own (x ∷ xs) zero (suc n) = ap (λ (l : List ℕ). x ∷ l) (put-own xs zero n)
-put-own (x ∷ xs) (suc at) n = ap (λ (l : List ℕ). x ∷ l) (put-own xs at n)
 
 -- five writes side by side are the head
 pub head-put : (xs us vs ws zs bs : List ℕ) (r : Reply)

@@ -1,12 +1,13 @@
 // Function 00: the words of the equipped inputs of the chosen kinds.
+use layout::UNIT;
+use layout::has_input;
+use layout::word_of;
 use model::Filled;
 use model::Frame;
 use model::Input;
 use model::Outcome;
 use model::Reply;
-use points::has_input;
 use points::refused;
-use points::word_of;
 ghost use mathlib.Core.Path.{_≡_};
 ghost use mathlib.Core.List.{[]};
 ghost use mathlib.Core.Bool.{cond};
@@ -17,69 +18,50 @@ ghost use Rattle.model.specs.Limits.{replyHead, longestReply};
 ghost use Rattle.model.specs.Frame.{asked};
 ghost use Rattle.model.specs.Scan.{Fills, inRoom};
 ghost use Rattle.model.specs.Inputs.{unreserved, chosen, wordOf, inputsOf};
+ghost use Rattle.layout.specs.Unit.{unitIn, configIn};
 
 // The words of the equipped ones of the n inputs from number from on go to reply from index at on; where the next goes.
-fn run(
-    table: &[u8; 256],
-    words: &[u16; 256],
-    from: usize,
-    n: usize,
-    reply: &mut [u8],
-    at: usize,
-) -> usize
+fn run(unit: &[u8; UNIT], from: usize, n: usize, reply: &mut [u8], at: usize) -> usize
     requires { ⌜ (from + n ≤ 256) × (at + 2 * n ≤ length (now reply)) ⌝ }
-    ensures { λ r. ⌜ Gathered (wordOf (now (table .entry)) (now (words .entry))) (upFrom from n) (now (reply .entry)) at (now (reply .exit)) r ⌝ }
+    ensures { λ r. ⌜ Gathered (wordOf (configIn (now (unit .entry)) .inputs) (unitIn (now (unit .entry)) .words))
+        (upFrom from n) (now (reply .entry)) at (now (reply .exit)) r ⌝ }
     ensures { λ r. ⌜ r ≤ at + 2 * n ⌝ }
 {
     let mut to = at;
     for k in 0..n {
         let number = Input((from + k) as u8);
-        if has_input(table, number) {
-            chars::put_word(reply, to, word_of(words, number));
+        if has_input(unit, number) {
+            chars::put_word(reply, to, word_of(unit, number));
             to += 2;
         }
     }
     to
 }
 
-fn kind(
-    on: bool,
-    table: &[u8; 256],
-    words: &[u16; 256],
-    from: usize,
-    n: usize,
-    reply: &mut [u8],
-    at: usize,
-) -> usize
+fn kind(on: bool, unit: &[u8; UNIT], from: usize, n: usize, reply: &mut [u8], at: usize) -> usize
     requires { ⌜ (from + n ≤ 256) × (at + 2 * n ≤ length (now reply)) ⌝ }
-    ensures { λ r. ⌜ Gathered (wordOf (now (table .entry)) (now (words .entry))) (cond on (upFrom from n) []) (now (reply .entry)) at (now (reply .exit)) r ⌝ }
+    ensures { λ r. ⌜ Gathered (wordOf (configIn (now (unit .entry)) .inputs) (unitIn (now (unit .entry)) .words))
+        (cond on (upFrom from n) []) (now (reply .entry)) at (now (reply .exit)) r ⌝ }
     ensures { λ r. ⌜ r ≤ at + 2 * n ⌝ }
 {
     if on {
-        run(table, words, from, n, reply, at)
+        run(unit, from, n, reply, at)
     } else {
         at
     }
 }
 
 // The kinds that a command's bits choose, lowest numbers first.
-fn kinds(table: &[u8; 256], words: &[u16; 256], command: u8, reply: &mut [u8]) -> usize
+fn kinds(unit: &[u8; UNIT], command: u8, reply: &mut [u8]) -> usize
     requires { ⌜ longestReply ≤ length (now reply) ⌝ }
-    ensures { λ r. ⌜ Gathered (wordOf (now (table .entry)) (now (words .entry))) (chosen command) (now (reply .entry)) replyHead (now (reply .exit)) r ⌝ }
+    ensures { λ r. ⌜ Gathered (wordOf (configIn (now (unit .entry)) .inputs) (unitIn (now (unit .entry)) .words))
+        (chosen command) (now (reply .entry)) replyHead (now (reply .exit)) r ⌝ }
     ensures { λ r. ⌜ r ≤ longestReply ⌝ }
 {
-    let a = kind(
-        command / 4 % 2 == 1,
-        table,
-        words,
-        0x00,
-        32,
-        reply,
-        Reply::HEAD,
-    );
-    let b = kind(command % 2 == 1, table, words, 0x30, 16, reply, a);
-    let c = kind(command / 64 % 2 == 1, table, words, 0x40, 32, reply, b);
-    kind(command / 8 % 2 == 1, table, words, 0x80, 128, reply, c)
+    let a = kind(command / 4 % 2 == 1, unit, 0x00, 32, reply, Reply::HEAD);
+    let b = kind(command % 2 == 1, unit, 0x30, 16, reply, a);
+    let c = kind(command / 64 % 2 == 1, unit, 0x40, 32, reply, b);
+    kind(command / 8 % 2 == 1, unit, 0x80, 128, reply, c)
 }
 
 // Whether no reserved bit of a command is set.
@@ -97,14 +79,9 @@ fn clear(command: u8) -> bool
     }
 }
 
-pub fn scan<'a>(
-    table: &'a [u8; 256],
-    words: &'a [u16; 256],
-    frame: Frame,
-    body: &'a [u8],
-    reply: &mut [u8],
-) -> Filled
-    ensures { λ r. ⌜ Fills (now (reply .entry)) (now (reply .exit)) (inRoom (length (now (reply .entry))) (inputsOf (now (table .entry)) (now (words .entry)) (asked frame (now (body .entry))))) r ⌝ }
+pub fn scan<'a>(unit: &'a [u8; UNIT], frame: Frame, body: &'a [u8], reply: &mut [u8]) -> Filled
+    ensures { λ r. ⌜ Fills (now (reply .entry)) (now (reply .exit)) (inRoom (length (now (reply .entry)))
+        (inputsOf (configIn (now (unit .entry)) .inputs) (unitIn (now (unit .entry)) .words) (asked frame (now (body .entry))))) r ⌝ }
 {
     if reply.len() < Reply::LONGEST {
         return refused(Outcome::BufferShort);
@@ -113,7 +90,7 @@ pub fn scan<'a>(
         if body.len() != 0 {
             return refused(Outcome::WrongCount);
         }
-        let end = kinds(table, words, frame.command, reply);
+        let end = kinds(unit, frame.command, reply);
         Filled {
             outcome: Outcome::Done,
             count: (end - Reply::HEAD) as u16,

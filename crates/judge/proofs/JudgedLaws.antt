@@ -26,13 +26,12 @@ use Rattle.model.specs.declared.Memory.{Memory}
 use Rattle.model.specs.declared.Memory.the-variants.{Nothing, Remembered}
 use Rattle.model.specs.declared.Port.{Port}
 use Rattle.model.proofs.Conditions.{by-bool, every-append, and-left, and-right, and-both}
-use Rattle.numbers.specs.Numbers.{clockIn, coreIn, memoryIn}
+use Rattle.numbers.specs.Numbers.{clockIn, coreIn, memoryIn, portIn, readable}
 use Rattle.numbers.proofs.RangeLaws.{same-bool, readable-parts}
 use Rattle.judge.specs.Judged.{
   filesBy,
   keptBy,
   fitsBy,
-  fitsIn,
   clockJudged,
   holdJudged,
   writeJudged,
@@ -147,17 +146,17 @@ values-none (suc n) =
     (λ e. let p : suc n ≤ 16 = leb-true (suc n) 16 e in le-leb (suc n - 1) 15 (omega arith)))
 
 -- what a file has past its values, where it is equipped, and past its room
-pub file-wrong : (c : Config) {files values : List ℕ} (counts : List ℕ) (f : ℕ) {b o w q room : ℕ} → c .files ≡ files → c .values ≡ values → f < 32
-    → b ≡ cond (eqb (getD values f 0) 0) 255 (getD values f 0 - 1) → o ≡ b - 15 → w ≡ cond (eqb (getD files f 0) 0) 0 o
-    → room ≡ cond (eqb (getD files f 0) 0) 0 32 → q ≡ getD counts f 0 - room
+pub file-wrong : (c : Config) (counts : List ℕ) (f : ℕ) {x v n b o w q room : ℕ} → f < 32
+    → getD (c .files) f 0 ≡ x → getD (c .values) f 0 ≡ v → getD counts f 0 ≡ n
+    → b ≡ cond (eqb v 0) 255 (v - 1) → o ≡ b - 15 → w ≡ cond (eqb x 0) 0 o → room ≡ cond (eqb x 0) 0 32 → q ≡ n - room
     → eqb (bitOr w q) 0 ≡ (fileValid c f && fileFits c (filesBy counts) f)
 unfolding fileValid fileFits hasFile has
-file-wrong c {files} {values} counts f {b} {o} {w} {q} {room} e v l p r s t u =
-    rw (or-none w q, s, r, p, u, over-none (getD counts f 0) room, t, held-by counts f, e, v, lt-ltb f 32 l)
-    (by-bool (eqb (getD files f 0) 0) (λ z. rw z) (λ z. rw (z, values-none (getD values f 0))))
+file-wrong c counts f {x} {v} {n} {b} {o} {w} {q} {room} l e g h p r s t u =
+    rw (or-none w q, s, r, p, u, over-none n room, t, held-by counts f, e, g, h, lt-ltb f 32 l)
+    (by-bool (eqb x 0) (λ z. rw z) (λ z. rw (z, values-none v)))
 
 -- an equipped file is one of 32
-pub file-low : (files : List ℕ) (f : ℕ) → hasFile files f ≡ true → f < 32
+file-low : (files : List ℕ) (f : ℕ) → hasFile files f ≡ true → f < 32
 unfolding hasFile
 file-low files f e = ltb-true f 32 (and-left (ltb f 32) (has files f) e)
 
@@ -261,8 +260,8 @@ turned true true true true true true true true true true true false p t g s l f 
 turned true true true true true true true true true true true true false t g s l f r = simp and-false
 
 pub in-turn : (c : Config) (lent : ℕ) (counts ks : List ℕ) → length ks ≡ 26
-    → fitsIn c lent counts ks
+    → (readable ks && fitsBy c lent counts (coreIn ks) (memoryIn ks) (portIn ks))
     ≡ (coreJudged c ks && (configJudged c lent
     && ((every (fileValid c) (upFrom 0 32) && every (fileFits c (filesBy counts)) (upFrom 0 32)) && memoryJudged c counts ks)))
-unfolding fitsIn validOf coreFits historyFits coreIn memoryIn clockJudged holdJudged writeJudged bitsJudged memoryJudged portJudged coreJudged configJudged
+unfolding validOf coreFits historyFits coreIn memoryIn clockJudged holdJudged writeJudged bitsJudged memoryJudged portJudged coreJudged configJudged
 in-turn c lent counts ks l = rw (readable-parts ks l, fits-parts, turned)

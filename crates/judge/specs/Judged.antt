@@ -1,4 +1,4 @@
--- A unit judged by what is lent: its tables, and in place of its records how many each file holds.
+-- A unit judged by what is lent: its memory, and in place of its records how many each file holds.
 use Prim.Native.Nat.{ℕ}
 use mathlib.Core.List.{List, [], map}
 use mathlib.Core.Bool.{Bool, _&&_}
@@ -29,15 +29,11 @@ use Rattle.numbers.specs.Numbers.{
   same,
   readable,
 }
+use Rattle.layout.specs.Unit.{layoutNumber, unitIn, configIn, roomOf}
 use Rattle.numbers.specs.declared.MemoryNumbers.{MemoryNumbers}
 use Rattle.model.specs.declared.Core.{Core}
 use Rattle.model.specs.declared.Memory.{Memory}
 use Rattle.model.specs.declared.Port.{Port}
-
--- a configuration from its parts, in the order in which they are lent
-abbrev pub configOf : ℕ → ℕ → List ℕ → List ℕ → List ℕ → List ℕ → List ℕ → Config
-configOf unit length inputs outputs calculations files values =
-    record { unit = unit; inputs = inputs; outputs = outputs; calculations = calculations; files = files; values = values; block = length }
 
 -- files that hold as many records as counted, each without a character
 unfoldable pub filesBy : List ℕ → Files
@@ -59,9 +55,12 @@ keptBy lent counts core memory port =
 unfoldable pub fitsBy : Config → ℕ → List ℕ → Core → Memory → Port → Bool
 fitsBy c lent counts core memory port = fits c (keptBy lent counts core memory port)
 
--- the same of kept numbers: they are those of a unit, which fits
-unfoldable pub fitsIn : Config → ℕ → List ℕ → List ℕ → Bool
-fitsIn c lent counts ks = readable ks && fitsBy c lent counts (coreIn ks) (memoryIn ks) (portIn ks)
+-- the same of a unit's memory, with the room that is lent for records: of this layout, enough room, and numbers of a unit, which fits
+unfoldable pub fitsIn : List ℕ → ℕ → ℕ → Bool
+fitsIn u lent room =
+    eqb (unitIn u .layout) layoutNumber && (leb (roomOf (configIn u)) room
+    && (readable (unitIn u .numbers) && fitsBy (configIn u) lent (unitIn u .counts)
+    (coreIn (unitIn u .numbers)) (memoryIn (unitIn u .numbers)) (portIn (unitIn u .numbers))))
 
 -- ---- the same part by part: numbers that a unit writes for what they mean, which is in range
 

@@ -1,8 +1,12 @@
 // Numbers that a unit writes for what they mean: each in its range, and 0 where its case writes none.
+use layout::UNIT;
+use layout::kept_of;
 ghost use mathlib.Core.Path.{_≡_};
 ghost use mathlib.Core.Bool.{_&&_};
-ghost use Prim.Native.Nat.{_<_};
+ghost use Prim.Native.Nat.{_+_, _<_};
 ghost use lib.Dec.{eqb};
+ghost use lib.ListN.{getD};
+ghost use Rattle.layout.specs.Unit.{unitIn};
 ghost use Rattle.numbers.specs.Numbers.{holdNumbers, writeNumbers, holdPlaces, writePlaces, holdAt, writeAt, holdIn, writeIn, same};
 ghost use Rattle.judge.specs.Judged.{bitsJudged};
 
@@ -13,38 +17,51 @@ pub fn wide(x: u16) -> usize
     x as usize
 }
 
-// As one number: four that lie side by side are then read and tested at once.
-pub fn zeros(a: u16, b: u16, c: u16, d: u16) -> bool
-    ensures { λ r. ⌜ r ≡ (eqb a 0 && eqb b 0 && eqb c 0 && eqb d 0) ⌝ }
+// Four from number i on, as one number: they lie side by side and are then read and tested at once.
+pub fn zeros<'a>(unit: &'a [u8; UNIT], i: usize) -> bool
+    requires { ⌜ i < 26 ⌝ }
+    ensures { λ r. ⌜ r ≡ (eqb (getD (unitIn (now (unit .entry)) .numbers) i 0) 0 && eqb (getD (unitIn (now (unit .entry)) .numbers) (i + 1) 0) 0
+        && eqb (getD (unitIn (now (unit .entry)) .numbers) (i + 2) 0) 0 && eqb (getD (unitIn (now (unit .entry)) .numbers) (i + 3) 0) 0) ⌝ }
 {
-    wide(a) + wide(b) * 0x10000 + wide(c) * 0x100000000 + wide(d) * 0x1000000000000 == 0
+    let a = wide(kept_of(unit, i));
+    let b = wide(kept_of(unit, i + 1));
+    let c = wide(kept_of(unit, i + 2));
+    let d = wide(kept_of(unit, i + 3));
+    a + b * 0x10000 + c * 0x100000000 + d * 0x1000000000000 == 0
 }
 
-pub fn bits_stand<'a>(kept: &'a [u16; 26]) -> bool
-    ensures { λ r. ⌜ r ≡ bitsJudged (now (kept .entry)) ⌝ }
+pub fn bits_stand<'a>(unit: &'a [u8; UNIT]) -> bool
+    ensures { λ r. ⌜ r ≡ bitsJudged (unitIn (now (unit .entry)) .numbers) ⌝ }
 {
-    (kept[15] < 2) & (kept[16] < 2) & (kept[17] < 2)
+    (kept_of(unit, 15) < 2) & (kept_of(unit, 16) < 2) & (kept_of(unit, 17) < 2)
 }
 
-pub fn hold_stands<'a>(kept: &'a [u16; 26]) -> bool
-    ensures { λ r. ⌜ r ≡ same (holdPlaces (holdNumbers (holdIn (holdAt (now (kept .entry)))))) (holdPlaces (holdAt (now (kept .entry)))) ⌝ }
+pub fn hold_stands<'a>(unit: &'a [u8; UNIT]) -> bool
+    ensures { λ r. ⌜ r ≡ same (holdPlaces (holdNumbers (holdIn (holdAt (unitIn (now (unit .entry)) .numbers)))))
+        (holdPlaces (holdAt (unitIn (now (unit .entry)) .numbers))) ⌝ }
 {
-    let tag = kept[5];
+    let tag = kept_of(unit, 5);
     match tag {
-        0 => zeros(kept[6], kept[7], kept[8], kept[9]),
-        1 => (kept[6] < 256) & (kept[7] < 256) & (kept[8] < 2),
-        2 => (kept[6] < 256) & (kept[7] == 0) & (kept[8] == 0) & (kept[9] == 0),
+        0 => zeros(unit, 6),
+        1 => (kept_of(unit, 6) < 256) & (kept_of(unit, 7) < 256) & (kept_of(unit, 8) < 2),
+        2 => {
+            (kept_of(unit, 6) < 256)
+                & (kept_of(unit, 7) == 0)
+                & (kept_of(unit, 8) == 0)
+                & (kept_of(unit, 9) == 0)
+        }
         _ => false,
     }
 }
 
-pub fn write_stands<'a>(kept: &'a [u16; 26]) -> bool
-    ensures { λ r. ⌜ r ≡ same (writePlaces (writeNumbers (writeIn (writeAt (now (kept .entry)))))) (writePlaces (writeAt (now (kept .entry)))) ⌝ }
+pub fn write_stands<'a>(unit: &'a [u8; UNIT]) -> bool
+    ensures { λ r. ⌜ r ≡ same (writePlaces (writeNumbers (writeIn (writeAt (unitIn (now (unit .entry)) .numbers)))))
+        (writePlaces (writeAt (unitIn (now (unit .entry)) .numbers))) ⌝ }
 {
-    let tag = kept[10];
+    let tag = kept_of(unit, 10);
     match tag {
-        0 => zeros(kept[11], kept[12], kept[13], kept[14]),
-        1 => (kept[11] < 256) & (kept[13] < 256),
+        0 => zeros(unit, 11),
+        1 => (kept_of(unit, 11) < 256) & (kept_of(unit, 13) < 256),
         _ => false,
     }
 }

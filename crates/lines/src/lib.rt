@@ -232,7 +232,8 @@ fn put_reply(out: &mut [u8], at: usize, reply: &[u8]) -> usize
 
 // The answer is how many of the characters stand in `out`: all of them where it is long enough.
 pub fn write_line(out: &mut [u8], number: u64, outcome: u8, reply: &[u8]) -> usize
-    ensures { λ r. ⌜ (now (out .exit) ≡ put (now (out .entry)) 0 (shownOf number outcome (now (reply .entry)))) × (r ≡ min (length (shownOf number outcome (now (reply .entry)))) (length (now (out .entry)))) ⌝ }
+    ensures { λ r. ⌜ (now (out .exit) ≡ put (now (out .entry)) 0 (shownOf number outcome (now (reply .entry))))
+        × (r ≡ min (length (shownOf number outcome (now (reply .entry)))) (length (now (out .entry)))) ⌝ }
 {
     let a = put_column(out, 0, number);
     let b = put_column(out, a, outcome as u64);

@@ -33,9 +33,6 @@ use Rattle.numbers.specs.Numbers.{
   memoryNumbers,
   markNumber,
   numbersOf,
-  putHold,
-  putWrite,
-  putMemory,
   putPassed,
   holdIn,
   writeIn,
@@ -122,17 +119,6 @@ remembered-back e m f d q b =
       λ i. record { memory = 1; master = m .0 i; file = f .0 i; dump = d .0 i; quantity = q .0 i; more = b .0 i },
       λ i. Remembered (record { master = record { 0 = back m i }; file = record { 0 = back f i }; dump = d .1 i; quantity = back q i; more = b .1 i }),
     )
-
--- the numbers of a part, put in their places
-module _ (ks : List ℕ) where
-  pub hold-put : {h : Hold} {n : HoldNumbers} → HoldBack h n → (putHold n ks ≡ putHold (holdNumbers h) ks) × (holdIn (holdNumbers h) ≡ h)
-  hold-put b = (λ i. putHold (b .0 i) ks, rw (b .0) at (b .1))
-
-  pub write-put : {p : Pending} {n : WriteNumbers} → WriteBack p n → (putWrite n ks ≡ putWrite (writeNumbers p) ks) × (writeIn (writeNumbers p) ≡ p)
-  write-put b = (λ i. putWrite (b .0 i) ks, rw (b .0) at (b .1))
-
-  pub memory-put : {m : Memory} {n : MemoryNumbers} → MemoryBack m n → (putMemory n ks ≡ putMemory (memoryNumbers m) ks) × (replyIn (memoryNumbers m) ≡ m)
-  memory-put b = (λ i. putMemory (b .0 i) ks, rw (b .0) at (b .1))
 
 -- a list of n numbers, number by number
 unfoldable pub firsts : ℕ → List ℕ → List ℕ

@@ -1,17 +1,20 @@
--- How answers are shown: a refusal leaves the buffer alone, data that were gathered behind the head are an answer, and an area is set.
+-- How answers are shown: a refusal leaves the buffer alone, data that were gathered behind the head are an answer, and a point is set.
 -- Assumes nothing.
-use mathlib.Core.Path.{_≡_, refl, sym}
+use mathlib.Core.Path.{_≡_, refl, sym, ap}
 use Prim.Native.Nat.{ℕ, _-_, _≤_, _<_}
 use native.Mathlib.Omega.{arith}
 use mathlib.Core.List.{List}
 use borrow.Author.Tests.{lt-ltb, le-ltb, eq-eqb, ne-eqb}
+use mathlib.Core.Bool.{false, cond}
 use lib.ListN.{length}
+use lib.Dec.{eqb}
 use Rattle.chars.specs.Gather.{gather, Gathered}
 use Rattle.chars.proofs.PutLaws.{put-none}
 use Rattle.model.specs.Limits.{replyHead, longestReply}
 use Rattle.model.specs.Frame.{Request}
+use Rattle.model.specs.Outcome.{numberOf}
 use Rattle.model.specs.Scan.{Scan, Fills, refuses, counts, withNoData, inRoom}
-use Rattle.model.specs.Inputs.{Changed}
+use Rattle.model.specs.Inputs.{Changed, unchanged}
 use Rattle.model.specs.declared.Outcome.{Outcome}
 use Rattle.model.specs.declared.Outcome.the-variants.{WrongCount, BufferShort}
 use Rattle.model.specs.declared.Filled.{Filled}
@@ -49,10 +52,10 @@ fills-gathered o g e f = rw (e, f) (record { ended = refl; counted = omega (arit
 pub fills-as : {entry exit : List ℕ} {m m′ : Scan} {r : Filled} → m ≡ m′ → Fills entry exit m′ r → Fills entry exit m r
 fills-as e a = rw e a
 
-pub sets : {m m′ : Changed} {exit : List ℕ} {r : Outcome} → m ≡ m′ → r ≡ m′ .outcome → exit ≡ m′ .area → Sets m exit r
-sets e f w = rw e (record { ended = f; area = w })
+pub sets : {m m′ : Changed} {u w v : List ℕ} {r : Outcome} → m ≡ m′ → r ≡ m′ .outcome → v ≡ cond (eqb (numberOf r) 0) w u → Sets m u w v r
+sets e f w = rw e (record { ended = f; left = w })
 
--- the same where a reply tells of the change
-pub resets : {entry exit area : List ℕ} {m m′ : Changed} {r : Filled} → m ≡ m′ → Fills entry exit (replyOf m′) r → area ≡ m′ .area
-    → Fills entry exit (replyOf m) r × (area ≡ m .area)
-resets e f w = rw e (f, w)
+-- a refusal, where a reply would tell of the change
+pub resets-refused : (u w : List ℕ) {entry : List ℕ} {m : Changed} {r : Filled} (o : Outcome) (area : List ℕ) → m ≡ unchanged o area
+    → eqb (numberOf o) 0 ≡ false → r ≡ noData o → Fills entry entry (replyOf m) r × (u ≡ cond (eqb (numberOf (r .outcome)) 0) w u)
+resets-refused u w o area e z f = (fills-refused o (ap replyOf e) f refl, rw (f, z))

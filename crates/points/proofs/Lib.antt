@@ -2,5 +2,6 @@
 pub mod NumberLaws
 pub mod AnswerLaws
 pub mod ChangeLaws
+pub mod MeansLaws
 pub mod Fits
 pub mod Unique

@@ -1,10 +1,12 @@
--- Numbers: whether one lies between two others, and what an equipped calculation number is.
+-- Numbers: whether one lies between two others, and where equipped numbers end.
 -- Assumes nothing.
 use mathlib.Core.Path.{_≡_}
-use Prim.Native.Nat.{ℕ, _≤_, _<_}
-use mathlib.Core.List.{List}
+use Prim.Native.Nat.{ℕ, zero, suc, _≤_, _<_}
+use native.Mathlib.Omega.{arith}
+use mathlib.Core.List.{List, [], _∷_}
 use mathlib.Core.Bool.{true, false}
-use borrow.Author.Tests.{leb-true, le-leb, lt-leb, ltb-true, lt-ltb, le-ltb}
+use borrow.Author.Tests.{leb-true, le-leb, lt-leb, ltb-true}
+use lib.ListN.{length}
 use lib.Dec.{leb}
 use Rattle.model.proofs.Conditions.{and-left, and-right}
 use Rattle.model.specs.Config.{has, within, hasCalculation}
@@ -26,15 +28,13 @@ module _ (low high n : ℕ) where
   unfolding within
   within-most e = leb-true _ _ (and-right (leb low n) (leb n high) e)
 
-module _ (table : List ℕ) (n : ℕ) where
-  pub calculation-low : n < 128 → hasCalculation table n ≡ has table n
-  unfolding hasCalculation
-  calculation-low h = simp (lt-ltb _ _ h)
+-- an equipped number lies in its table
+pub has-below : (table : List ℕ) (n : ℕ) → has table n ≡ true → n < length table
+unfolding has
+has-below [] n e = let z : _≡_ {A = ℕ} 0 1 = cc in absurd (omega arith)
+has-below (x ∷ table) zero e = omega arith
+has-below (x ∷ table) (suc n) e = omega (arith, has-below table n e)
 
-  pub calculation-high : 128 ≤ n → hasCalculation table n ≡ false
-  unfolding hasCalculation
-  calculation-high h = simp (le-ltb _ _ h)
-
-  pub calculation-below : hasCalculation table n ≡ true → n < 128
-  unfolding hasCalculation
-  calculation-below e = ltb-true _ _ (and-left _ _ e)
+pub calculation-below : (table : List ℕ) (n : ℕ) → hasCalculation table n ≡ true → n < 128
+unfolding hasCalculation
+calculation-below table n e = ltb-true _ _ (and-left _ _ e)

@@ -1,7 +1,10 @@
--- What the contracts over points say beside the model: an answer without data, and a changed area.
+-- What the contracts over points say beside the model: an answer without data, and a memory in which one point was changed.
 use mathlib.Core.Path.{_≡_}
+use mathlib.Core.Bool.{cond}
 use Prim.Native.Nat.{ℕ}
 use mathlib.Core.List.{List}
+use lib.Dec.{eqb}
+use Rattle.model.specs.Outcome.{numberOf}
 use Rattle.model.specs.Scan.{Scan}
 use Rattle.model.specs.Inputs.{Changed}
 use Rattle.model.specs.declared.Outcome.{Outcome}
@@ -14,7 +17,7 @@ noData o = record { outcome = o; count = 0 }
 abbrev pub replyOf : Changed → Scan
 replyOf m = record { outcome = m .outcome; chars = m .chars }
 
--- an area after an event that came to m
-pub record Sets (m : Changed) (exit : List ℕ) (r : Outcome) : Type 0 where
+-- a memory u after an event that came to m: w where it was done, else as it was
+pub record Sets (m : Changed) (u w v : List ℕ) (r : Outcome) : Type 0 where
   pub ended : r ≡ m .outcome
-  pub area : exit ≡ m .area
+  pub left : v ≡ cond (eqb (numberOf r) 0) w u

@@ -1,4 +1,4 @@
-// The points of the unit: which are equipped and what they hold, and what events and 20h/11h change in them.
+// The points of the unit: what events and 20h/11h change in them, and an answer without data.
 mod changes;
 mod equipment;
 
@@ -6,7 +6,4 @@ pub use changes::pulses;
 pub use changes::reset_count;
 pub use changes::set_value;
 pub use changes::set_word;
-pub use equipment::has_calculation;
-pub use equipment::has_input;
 pub use equipment::refused;
-pub use equipment::word_of;

@@ -3,6 +3,7 @@
 use frames::outcomes::number;
 use frames::outcomes::reply_function;
 use frames::outcomes::sending;
+use layout::UNIT;
 use model::Frame;
 use model::Mark;
 use model::Outcome;
@@ -28,6 +29,7 @@ ghost use Rattle.model.specs.Blocks.{dropped};
 ghost use Rattle.model.specs.Outcome.{numberOf, sendingOf, damaged};
 ghost use Rattle.model.specs.Step.{answered, statusOf, withWrite, withBroadcast, settled};
 ghost use Rattle.numbers.specs.Numbers.{coreIn, memoryIn, portIn, readable, Written};
+ghost use Rattle.layout.specs.Unit.{numbersIn, Renumbered, NumbersOnly};
 ghost use Rattle.replies.specs.Ends.{Replies, headOf, heardBy, statusAt, unansweredIn, heardIn};
 
 fn is_answered(outcome: Outcome) -> bool
@@ -53,17 +55,17 @@ fn bit(on: bool, value: u8) -> u8
 }
 
 // The status, which a frame finds before its function changes it.
-pub fn status_in<'a>(kept: &'a [u16; 26]) -> u8
-    ensures { λ r. ⌜ r ≡ statusOf (coreIn (now (kept .entry))) ⌝ }
+pub fn status_in<'a>(unit: &'a [u8; UNIT]) -> u8
+    ensures { λ r. ⌜ r ≡ statusOf (coreIn (numbersIn (now (unit .entry)))) ⌝ }
 {
-    bit(configure_in(kept), 0x80) + (bit(error_in(kept), 0x08) + bit(broadcast_in(kept), 0x04))
+    bit(configure_in(unit), 0x80) + (bit(error_in(unit), 0x08) + bit(broadcast_in(unit), 0x04))
 }
 
 // The mark's number is at most 2 where the numbers stand.
-pub fn port_status_in<'a>(kept: &'a [u16; 26]) -> u8
-    ensures { λ r. ⌜ r ≡ statusAt (now (kept .entry)) ⌝ }
+pub fn port_status_in<'a>(unit: &'a [u8; UNIT]) -> u8
+    ensures { λ r. ⌜ r ≡ statusAt (numbersIn (now (unit .entry))) ⌝ }
 {
-    0x54 + (mark_at(kept) % 4) as u8
+    0x54 + (mark_at(unit) % 4) as u8
 }
 
 // Head and check go round the data once, whatever the function was.
@@ -93,22 +95,24 @@ pub fn finish(
 // ---- the core
 
 // A WRITE that is taken waits; any other frame of its master drops a write.
-fn settle_write(kept: &mut [u16; 26], frame: Frame, outcome: Outcome)
-    ensures { λ _. ⌜ (readable (now (kept .entry)) ≡ true → Written
-        (withWrite (coreIn (now (kept .entry))) (cond (eqb (numberOf outcome) 5) (coreIn (now (kept .entry)) .write) (dropped (coreIn (now (kept .entry)) .write) (masterOf (frame .address)))))
-        (memoryIn (now (kept .entry))) (portIn (now (kept .entry))) (now (kept .exit))) ⌝ }
+fn settle_write(unit: &mut [u8; UNIT], frame: Frame, outcome: Outcome)
+    ensures { λ _. ⌜ (readable (numbersIn (now (unit .entry))) ≡ true → Written
+        (withWrite (coreIn (numbersIn (now (unit .entry))))
+        (cond (eqb (numberOf outcome) 5) (coreIn (numbersIn (now (unit .entry))) .write) (dropped (coreIn (numbersIn (now (unit .entry))) .write) (masterOf (frame .address)))))
+        (memoryIn (numbersIn (now (unit .entry)))) (portIn (numbersIn (now (unit .entry)))) (numbersIn (now (unit .exit)))) ⌝ }
+    ensures { λ _. ⌜ NumbersOnly (now (unit .entry)) (now (unit .exit)) ⌝ }
 {
     if number(outcome) == 5 {
         return;
     }
     let master = frames::master_of(frame.address);
-    let pending = write_kept(kept);
+    let pending = write_kept(unit);
     match pending {
         Pending::NoWrite => {}
         Pending::Waits(write) => {
             let owner = write.master;
             if owner.0 == master.0 {
-                keep_write(kept, Pending::NoWrite);
+                keep_write(unit, Pending::NoWrite);
             }
         }
     }
@@ -124,50 +128,54 @@ fn is_damaged(outcome: Outcome) -> bool
 }
 
 // The mark that the outcome leaves is not written again.
-fn mark_unanswered(kept: &mut [u16; 26], outcome: Outcome)
-    ensures { λ _. ⌜ now (kept .exit) ≡ unansweredIn (now (kept .entry)) outcome ⌝ }
+fn mark_unanswered(unit: &mut [u8; UNIT], outcome: Outcome)
+    ensures { λ _. ⌜ Renumbered (now (unit .entry)) (now (unit .exit)) (unansweredIn (numbersIn (now (unit .entry))) outcome) ⌝ }
 {
     if is_damaged(outcome) {
-        keep_mark(kept, Mark::Damaged);
+        keep_mark(unit, Mark::Damaged);
     }
 }
 
 // An empty stretch leaves all.
-pub fn mark_port(kept: &mut [u16; 26], s: &[u8], ended: Outcome)
-    ensures { λ _. ⌜ now (kept .exit) ≡ heardIn (now (kept .entry)) (now (s .entry)) ended ⌝ }
+pub fn mark_port(unit: &mut [u8; UNIT], s: &[u8], ended: Outcome)
+    ensures { λ _. ⌜ Renumbered (now (unit .entry)) (now (unit .exit)) (heardIn (numbersIn (now (unit .entry))) (now (s .entry)) ended) ⌝ }
 {
     if s.len() == 0 {
         return;
     }
-    keep_silence(kept, 0);
+    keep_silence(unit, 0);
     if is_answered(ended) {
-        keep_mark(kept, Mark::Fine);
+        keep_mark(unit, Mark::Fine);
         return;
     }
-    mark_unanswered(kept, ended);
+    mark_unanswered(unit, ended);
 }
 
 // ---- a frame for this unit
 
 // A reply clears bit 2 and the mark.
-fn settle_line(kept: &mut [u16; 26], outcome: Outcome)
-    ensures { λ _. ⌜ (readable (now (kept .entry)) ≡ true → Written
-        (withBroadcast (coreIn (now (kept .entry))) (cond (answered (sendingOf outcome)) false (coreIn (now (kept .entry)) .broadcast)))
-        (memoryIn (now (kept .entry))) (heardBy (portIn (now (kept .entry))) outcome) (now (kept .exit))) ⌝ }
+fn settle_line(unit: &mut [u8; UNIT], outcome: Outcome)
+    ensures { λ _. ⌜ (readable (numbersIn (now (unit .entry))) ≡ true → Written
+        (withBroadcast (coreIn (numbersIn (now (unit .entry)))) (cond (answered (sendingOf outcome)) false (coreIn (numbersIn (now (unit .entry))) .broadcast)))
+        (memoryIn (numbersIn (now (unit .entry)))) (heardBy (portIn (numbersIn (now (unit .entry)))) outcome) (numbersIn (now (unit .exit)))) ⌝ }
+    ensures { λ _. ⌜ NumbersOnly (now (unit .entry)) (now (unit .exit)) ⌝ }
 {
-    keep_silence(kept, 0);
+    keep_silence(unit, 0);
     if is_answered(outcome) {
-        keep_broadcast(kept, false);
-        keep_mark(kept, Mark::Fine);
+        keep_broadcast(unit, false);
+        keep_mark(unit, Mark::Fine);
         return;
     }
-    mark_unanswered(kept, outcome);
+    mark_unanswered(unit, outcome);
 }
 
 // Whether there was a reply is asked once, for bit 2 and for the port.
-pub fn settle(kept: &mut [u16; 26], frame: Frame, outcome: Outcome)
-    ensures { λ _. ⌜ (readable (now (kept .entry)) ≡ true → Written (settled (asked frame []) outcome (coreIn (now (kept .entry)))) (memoryIn (now (kept .entry))) (heardBy (portIn (now (kept .entry))) outcome) (now (kept .exit))) ⌝ }
+pub fn settle(unit: &mut [u8; UNIT], frame: Frame, outcome: Outcome)
+    ensures { λ _. ⌜ (readable (numbersIn (now (unit .entry))) ≡ true → Written
+        (settled (asked frame []) outcome (coreIn (numbersIn (now (unit .entry))))) (memoryIn (numbersIn (now (unit .entry))))
+        (heardBy (portIn (numbersIn (now (unit .entry)))) outcome) (numbersIn (now (unit .exit)))) ⌝ }
+    ensures { λ _. ⌜ NumbersOnly (now (unit .entry)) (now (unit .exit)) ⌝ }
 {
-    settle_write(kept, frame, outcome);
-    settle_line(kept, outcome);
+    settle_write(unit, frame, outcome);
+    settle_line(unit, outcome);
 }

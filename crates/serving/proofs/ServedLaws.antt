@@ -53,7 +53,7 @@ module _ (found : Core) (q : Request) (o : Outcome) (mark : Mark) (entry mid exi
   abbrev sent : List ℕ
   sent = sentChars mark (sentAs (sendingOf o) (saidOf found q o ys))
 
-  sent-said : answered (sendingOf o) ≡ true → (n ≡ length sent) × (exit ≡ put entry 0 sent) × (n ≤ length entry)
+  sent-said : answered (sendingOf o) ≡ true → (n ≡ length sent) × (exit ≡ put entry 0 sent) × (n ≤ length entry) × (n ≤ longestReply)
   unfolding sentChars repliedIn
   sent-said e =
       let g : 7 + length ys + 2 ≤ length mid = omega (arith, t .short, ap length w, length-put entry 7 ys) in
@@ -63,9 +63,9 @@ module _ (found : Core) (q : Request) (o : Outcome) (mark : Mark) (entry mid exi
       let a : n ≡ length (framedIn mid head) = rw e at (f .counted) in
       let b : exit ≡ put mid 0 (framedIn mid head) = rw e at (f .written) in
       let u : sentAs (sendingOf o) (saidOf found q o ys) ≡ said (saidOf found q o ys) = said-when (sendingOf o) (saidOf found q o ys) e in
-      rw u (a ∙ ap length z, b ∙ ap (λ (x : List ℕ). put x 0 (framedIn mid head)) w ∙ put-over entry 7 ys (framedIn mid head) (omega arith) ∙ ap (put entry 0) z, omega (arith, t .short))
+      rw u (a ∙ ap length z, b ∙ ap (λ (x : List ℕ). put x 0 (framedIn mid head)) w ∙ put-over entry 7 ys (framedIn mid head) (omega arith) ∙ ap (put entry 0) z, omega (arith, t .short), omega (arith, t .short))
 
-  sent-silent : answered (sendingOf o) ≡ false → (n ≡ length sent) × (exit ≡ put entry 0 sent) × (n ≤ length entry)
+  sent-silent : answered (sendingOf o) ≡ false → (n ≡ length sent) × (exit ≡ put entry 0 sent) × (n ≤ length entry) × (n ≤ longestReply)
   unfolding sentChars repliedIn
   sent-silent e =
       let a : n ≡ 0 = rw e at (f .counted) in
@@ -73,9 +73,9 @@ module _ (found : Core) (q : Request) (o : Outcome) (mark : Mark) (entry mid exi
       let y : ys ≡ [] = t .quiet e in
       let v : put entry 7 ys ≡ entry = rw y (put-none entry 7) in
       rw (silent-when (sendingOf o) (saidOf found q o ys) e)
-      (a, b ∙ put-none mid 0 ∙ w ∙ v ∙ sym (put-none entry 0), omega arith)
+      (a, b ∙ put-none mid 0 ∙ w ∙ v ∙ sym (put-none entry 0), omega arith, omega arith)
 
-  sent-as : (n ≡ length sent) × (exit ≡ put entry 0 sent) × (n ≤ length entry)
+  sent-as : (n ≡ length sent) × (exit ≡ put entry 0 sent) × (n ≤ length entry) × (n ≤ longestReply)
   sent-as = by-bool (answered (sendingOf o)) sent-said sent-silent
 
 pub makes-served : (c : Config) (i : Inner) (q : Request) (mark : Mark) {areas : Areas} {fs : Files} {p : Port} {ks ls entry mid exit : List ℕ} {r : Step} {x : MadeOf} {n : ℕ}
@@ -95,6 +95,7 @@ makes-served c i q mark {entry = entry} {mid} {exit} {r} {n = n} l a f k e =
       acted = a .acted;
       counted = g .0;
       inside = g .2;
+      small = g .3;
       written = g .1;
       kept = rw (a .ended, a .kept .means .core, a .kept .means .memory, a .kept .means .port) at k;
       areas = a .areas;

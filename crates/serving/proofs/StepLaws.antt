@@ -21,6 +21,7 @@ use Rattle.model.specs.Control.{Controlled, controlOf, breaks}
 use Rattle.model.specs.History.{historyOf}
 use Rattle.model.specs.Step.{
   Step as StepOf,
+  Made,
   withHold,
   refused,
   scanned,
@@ -39,19 +40,25 @@ use Rattle.model.specs.declared.Outcome.the-variants.{Unknown}
 use Rattle.model.specs.declared.Action.the-variants.{Rest}
 use Rattle.model.specs.declared.Hold.{Hold}
 use Rattle.model.specs.declared.Core.{Core}
+use Rattle.model.specs.declared.Mark.{Mark}
 use Rattle.model.specs.declared.Port.{Port}
 use Rattle.model.proofs.Conditions.{by-bool, and-left, and-right}
 use Rattle.model.proofs.Refusing.{control-leaves}
 use Rattle.numbers.specs.Numbers.{Written}
 use Rattle.control.specs.declared.Ran.{Ran}
 use Rattle.control.specs.Runs.{Runs}
-use Rattle.history.specs.Change.{stays, freedBy}
+use Rattle.history.specs.Change.{Change, stays, freedBy}
+use Rattle.layout.specs.Unit.{NumbersOnly, unitIn}
+use Rattle.history.specs.Layout.{filesIn}
+use Rattle.events.specs.Kept.{areasIn, Steady}
 use Rattle.events.specs.Changes.{Stepped, alone, telling, initialStep, internalStep, returnStep, stepOf}
 use Rattle.events.proofs.HeedLaws.{still}
 use Rattle.commands.specs.declared.Step.{Step}
 use Rattle.commands.specs.Acts.{Tame, Acts}
 use Rattle.commands.proofs.TameLaws.{mute}
-use Rattle.serving.specs.Served.{leaves, Acted}
+use Rattle.commands.specs.declared.Made.{Made as MadeOf}
+use Rattle.commands.proofs.CommandLaws.{unshifted-numbers, numbers-kept}
+use Rattle.serving.specs.Served.{leaves, Acted, MakesIn}
 
 -- ---- which step
 
@@ -141,3 +148,15 @@ acted-still {area = area} {held} e w = record { acts = w; changed = rw e (still 
 pub alone-stays : (i : Inner) (p : StepOf) {m : Stepped} → m ≡ alone i p → m .change ≡ stays
 unfolding alone
 alone-stays i p e = rw e
+
+pub steady-same : (u : List ℕ) → Steady u u
+steady-same u = record { layout = refl; config = refl; long = refl }
+
+pub steady-then : (u v w : List ℕ) → Steady u v → Steady v w → Steady u w
+steady-then u v w a b = record { layout = b .layout ∙ a .layout; config = b .config ∙ a .config; long = b .long ∙ a .long }
+
+-- what was made, and then only numbers written
+pub makes-renumbered : (v w block values : List ℕ) {m : Made} {ch : Change} {mark : Mark} {p : Port} {ls area held area′ entry exit : List ℕ} {r : MadeOf} → NumbersOnly v w
+    → MakesIn m ch mark (areasIn v block) (filesIn values area′ (unitIn v .counts)) p ls area held area′ (unitIn v .counts) entry exit r
+    → MakesIn m ch mark (areasIn w block) (filesIn values area′ (unitIn w .counts)) p ls area held area′ (unitIn w .counts) entry exit r
+makes-renumbered v w block values n h = rw (unshifted-numbers v w n .counts, numbers-kept v block w n) h

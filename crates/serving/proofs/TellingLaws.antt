@@ -1,48 +1,53 @@
 -- Function 04 as the step that it comes to. Assumes nothing.
-use mathlib.Core.Path.{_≡_, refl}
+use mathlib.Core.Path.{_≡_, refl, ap}
 use Prim.Native.Nat.{ℕ, _≤_}
 use native.Mathlib.Omega.{arith}
 use mathlib.Core.List.{List}
 use mathlib.Core.Bool.{true}
+use lib.ListN.{length}
 use Rattle.model.specs.Frame.{Request}
-use Rattle.model.specs.Config.{Config}
-use Rattle.model.specs.State.{Areas}
 use Rattle.model.specs.History.{historyOf}
 use Rattle.model.specs.declared.Action.the-variants.{Rest}
 use Rattle.model.specs.declared.Filled.{Filled}
-use Rattle.numbers.specs.Numbers.{coreIn, memoryIn, portIn, readable}
+use Rattle.numbers.specs.Numbers.{memoryIn, portIn, readable}
 use Rattle.history.specs.Layout.{filesIn}
-use Rattle.history.specs.Change.{freedBy}
+use Rattle.history.specs.Change.{freedBy, countsAfter}
 use Rattle.history.specs.Tell.{Serves}
-use Rattle.history.proofs.FitsLaws.{serves-told, serves-files}
+use Rattle.history.proofs.FitsLaws.{serves-told, serves-files, serves-written}
 use Rattle.commands.specs.declared.Step.{Step}
-use Rattle.events.specs.Kept.{innerOf}
+use Rattle.layout.specs.Unit.{Unit, unitLong, unitIn, configIn, numbersIn}
+use Rattle.events.specs.Kept.{areasBy, areasIn, heldIn, innerIn, Steady}
 use Rattle.events.specs.Changes.{Stepped, telling}
 use Rattle.commands.proofs.TameLaws.{tame}
 use Rattle.serving.specs.Served.{Ready, Acted}
 use Rattle.serving.proofs.TameLaws.{history-says, told-short}
 
-pub acted-told : (c : Config) (a : Areas) (area held ks : List ℕ) (q : Request) {m : Stepped} {b : Areas} {ls entry exit area′ held′ : List ℕ} (t : Filled) {r : Step}
-    → Ready c (memoryIn ks) area held → readable ks ≡ true → Serves (c .files) (c .values) ks q area held entry t area′ held′ ls exit
-    → m ≡ telling (innerOf (coreIn ks) a (memoryIn ks) (filesIn (c .values) area held)) (historyOf (c .files) (c .values) (record { memory = memoryIn ks; files = filesIn (c .values) area held }) q) (freedBy (c .files) (memoryIn ks) q)
-    → r ≡ record { outcome = t .outcome; action = Rest; count = t .count } → b ≡ a
-    → Acted m b (filesIn (c .values) area′ held′) (portIn ks) ls area held area′ held′ entry exit r
+pub acted-told : (u block area : List ℕ) (q : Request) {m : Stepped} (v : List ℕ) {entry exit area′ : List ℕ} (t : Filled) {r : Step}
+    → length u ≡ unitLong → Ready u area → readable (numbersIn u) ≡ true → Serves u q area entry t v area′ exit
+    → m ≡ telling (innerIn u block area) (historyOf (configIn u .files) (configIn u .values) (record { memory = memoryIn (numbersIn u); files = heldIn u area }) q) (freedBy (configIn u .files) (memoryIn (numbersIn u)) q)
+    → r ≡ record { outcome = t .outcome; action = Rest; count = t .count }
+    → Acted m (areasIn v block) (filesIn (configIn u .values) area′ (unitIn v .counts)) (portIn (numbersIn u)) (numbersIn v) area (unitIn u .counts) area′ (unitIn v .counts) entry exit r
 unfolding telling
-acted-told c a area held ks q {area′ = area′} {held′} t y stands s z e x =
-    let u = serves-told c area held ks (y .valid) (y .fits) (y .room) (y .long) s in
-    let v = serves-files c area held ks (y .valid) (y .fits) (y .room) (y .long) s in
-    let n : t .count ≤ 511 = omega (arith, told-short c area′ held′ (memoryIn ks) q (y .valid), s .told .sent .counted) in
-    rw (z, e, x)
+acted-told u block area q v {area′ = area′} t long y stands s z e =
+    let w = serves-told u area (y .valid) (y .fits) (y .room) long s in
+    let f = serves-files u area (y .valid) (y .fits) (y .room) long s in
+    let k = serves-written u area (y .valid) (y .fits) (y .room) long s stands in
+    let n : t .count ≤ 511 =
+    omega (arith, told-short (configIn u) area′ (countsAfter (freedBy (configIn u .files) (memoryIn (numbersIn u)) q) (unitIn u .counts)) (memoryIn (numbersIn u)) q (y .valid), s .told .sent .counted) in
+    rw (z, e)
     (record {
       acts = record {
-        ended = u .ended;
+        ended = w .ended;
         acted = refl;
-        counted = u .sent .counted;
-        written = u .sent .written;
-        kept = u .kept stands;
-        areas = refl;
-        files = v;
-        tame = tame (history-says (c .files) (c .values) (record { memory = memoryIn ks; files = filesIn (c .values) area held }) q) (omega (arith, u .sent .counted));
+        counted = w .sent .counted;
+        written = w .sent .written;
+        kept = k;
+        areas = ap (λ (x : Unit). areasBy x block) (s .left);
+        files = f;
+        tame = tame (history-says (configIn u .files) (configIn u .values) (record { memory = memoryIn (numbersIn u); files = heldIn u area }) q) (omega (arith, w .sent .counted));
       };
-      changed = s .changed;
+      changed = record { moved = s .moved; counted = ap (λ (x : Unit). x .counts) (s .left) };
     })
+
+pub told-steady : (u v : List ℕ) {area entry area′ exit : List ℕ} {q : Request} {t : Filled} → Serves u q area entry t v area′ exit → Steady u v
+told-steady u v s = record { layout = ap (λ (x : Unit). x .layout) (s .left); config = ap (λ (x : Unit). x .config) (s .left); long = s .long }

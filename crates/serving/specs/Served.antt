@@ -1,21 +1,23 @@
 -- What a frame for this unit promises, with the lent characters and counts of the files.
 use mathlib.Core.Path.{_≡_}
-use Prim.Native.Nat.{ℕ}
+use Prim.Native.Nat.{ℕ, _≤_}
 use mathlib.Core.List.{List}
 use mathlib.Core.Bool.{Bool, true, not, _&&_}
 use lib.ListN.{length}
 use lib.Dec.{eqb}
 use Rattle.model.specs.Outcome.{numberOf}
-use Rattle.model.specs.Config.{Config, within, validOf}
+use Rattle.model.specs.Config.{within, validOf}
 use Rattle.model.specs.Fits.{historyFits}
 use Rattle.model.specs.State.{Areas, Files}
 use Rattle.model.specs.Step.{Made}
 use Rattle.model.specs.declared.Outcome.{Outcome}
-use Rattle.model.specs.declared.Memory.{Memory}
+use Rattle.numbers.specs.Numbers.{memoryIn}
 use Rattle.model.specs.declared.Mark.{Mark}
 use Rattle.model.specs.declared.Port.{Port}
-use Rattle.history.specs.Layout.{filesIn}
-use Rattle.history.specs.Change.{Change, Changed}
+use Rattle.layout.specs.Unit.{configIn, numbersIn, roomOf}
+use Rattle.history.specs.Change.{Change}
+use Rattle.events.specs.Kept.{heldIn}
+use Rattle.events.specs.Heed.{Shifted}
 use Rattle.events.specs.Changes.{Stepped}
 use Rattle.commands.specs.declared.Step.{Step}
 use Rattle.commands.specs.declared.Made.{Made as MadeOf}
@@ -25,19 +27,18 @@ use Rattle.commands.specs.Acts.{Acts, Makes}
 abbrev pub leaves : Outcome → Bool
 leaves o = within 6 15 (numberOf o) && not (eqb (numberOf o) 11) && not (eqb (numberOf o) 12)
 
--- a configuration that is valid, and a history in range in lent arrays
-pub record Ready (c : Config) (w : Memory) (area counts : List ℕ) : Type 0 where
-  pub valid : validOf c ≡ true
-  pub fits : historyFits c (record { memory = w; files = filesIn (c .values) area counts }) ≡ true
-  pub room : length area ≡ 38912
-  pub long : length counts ≡ 32
+-- a configuration that is valid, and a history in range in the room that is asked for
+pub record Ready (u area : List ℕ) : Type 0 where
+  pub valid : validOf (configIn u) ≡ true
+  pub fits : historyFits (configIn u) (record { memory = memoryIn (numbersIn u); files = heldIn u area }) ≡ true
+  pub room : roomOf (configIn u) ≤ length area
 
 -- what a function made of a frame, with the lent characters and counts of the files
 pub record Acted (m : Stepped) (a : Areas) (fs : Files) (p : Port) (ls area counts area′ counts′ entry exit : List ℕ) (r : Step) : Type 0 where
   pub acts : Acts m a fs p ls entry exit r
-  pub changed : Changed (m .change) area counts area′ counts′
+  pub changed : Shifted (m .change) area counts area′ counts′
 
 -- what was made of a stretch, with the lent characters and counts of the files
 pub record MakesIn (m : Made) (ch : Change) (mark : Mark) (a : Areas) (fs : Files) (p : Port) (ls area counts area′ counts′ entry exit : List ℕ) (r : MadeOf) : Type 0 where
   pub makes : Makes m mark a fs p ls entry exit r
-  pub changed : Changed ch area counts area′ counts′
+  pub changed : Shifted ch area counts area′ counts′

@@ -6,6 +6,7 @@ use commands::refused;
 use commands::returned;
 use commands::scanned;
 use frames::outcomes::number;
+use layout::UNIT;
 use model::Frame;
 use model::Hold;
 use model::Outcome;
@@ -17,7 +18,7 @@ use replies::settle;
 use replies::status_in;
 ghost use mathlib.Core.Path.{_≡_};
 ghost use mathlib.Core.Bool.{true};
-ghost use Prim.Native.Nat.{ℕ, _≤_};
+ghost use Prim.Native.Nat.{_≤_};
 ghost use lib.ListN.{length};
 ghost use Rattle.model.specs.Limits.{longestReply};
 ghost use Rattle.model.specs.Frame.{asked};
@@ -26,8 +27,8 @@ ghost use Rattle.model.specs.Step.{served, withHold};
 ghost use Rattle.numbers.specs.Numbers.{coreIn, memoryIn, portIn, readable, Written};
 ghost use Rattle.replies.specs.Ends.{heardBy};
 ghost use Rattle.history.specs.Layout.{filesIn};
-ghost use Rattle.judge.specs.Judged.{configOf};
-ghost use Rattle.events.specs.Kept.{areasOf, innerOf};
+ghost use Rattle.layout.specs.Unit.{unitIn, configIn, numbersIn, NumbersOnly};
+ghost use Rattle.events.specs.Kept.{areasIn, innerIn, Steady};
 ghost use Rattle.events.specs.Changes.{stepOf};
 ghost use Rattle.serving.specs.Served.{leaves, Ready, Acted, MakesIn};
 
@@ -41,10 +42,12 @@ fn left(outcome: Outcome) -> bool
     (6 <= n) & (n <= 15) & (n != 11) & (n != 12)
 }
 
-fn controlled(kept: &mut [u16; 26], ran: control::Ran) -> Step
+fn controlled(unit: &mut [u8; UNIT], ran: control::Ran) -> Step
     ensures { λ r. ⌜ (r ≡ record { outcome = ran .outcome; action = ran .action; count = ran .count })
-        × (readable (now (kept .entry)) ≡ true → (leaves (ran .outcome) ≡ true → ran .hold ≡ coreIn (now (kept .entry)) .hold)
-        → Written (withHold (coreIn (now (kept .entry))) (ran .hold)) (memoryIn (now (kept .entry))) (portIn (now (kept .entry))) (now (kept .exit))) ⌝ }
+        × (readable (numbersIn (now (unit .entry))) ≡ true → (leaves (ran .outcome) ≡ true → ran .hold ≡ coreIn (numbersIn (now (unit .entry))) .hold)
+        → Written (withHold (coreIn (numbersIn (now (unit .entry)))) (ran .hold))
+        (memoryIn (numbersIn (now (unit .entry)))) (portIn (numbersIn (now (unit .entry)))) (numbersIn (now (unit .exit)))) ⌝ }
+    ensures { λ _. ⌜ NumbersOnly (now (unit .entry)) (now (unit .exit)) ⌝ }
 {
     let outcome = ran.outcome;
     let action = ran.action;
@@ -57,105 +60,85 @@ fn controlled(kept: &mut [u16; 26], ran: control::Ran) -> Step
     if left(outcome) {
         return step;
     }
-    keep_hold(kept, hold);
+    keep_hold(unit, hold);
     step
 }
 
 // ---- the frame
 
+// Nothing is done: an array that is lent as a slice tells its length.
+fn told_long(unit: &[u8]) {}
+
 // A frame that breaks a select off is judged before its function.
 fn act<'a>(
-    inputs: &'a [u8; 256],
-    outputs: &'a [u8; 256],
-    calculations: &'a [u8; 256],
-    files: &'a [u8; 32],
-    values: &'a [u8; 32],
-    kept: &mut [u16; 26],
-    words: &mut [u16; 256],
-    results: &'a [u32; 128],
-    fixed: &mut [u8; 528],
+    unit: &mut [u8; UNIT],
     block: &mut [u8],
-    area: &mut [u8; 38912],
-    counts: &mut [u8; 32],
+    records: &mut [u8],
     buffer: &mut [u8],
     frame: Frame,
     body: &'a [u8],
 ) -> Step
-    requires { ⌜ (longestReply ≤ length (now buffer)) × (clockFits (coreIn (now kept) .clock) ≡ true) ⌝ }
-    ensures { λ r. ⌜ ((unit long : ℕ) → Ready (configOf unit long (now (inputs .entry)) (now (outputs .entry)) (now (calculations .entry)) (now (files .entry)) (now (values .entry))) (memoryIn (now (kept .entry))) (now (area .entry)) (now (counts .entry)) → readable (now (kept .entry)) ≡ true
-        → Acted (stepOf (configOf unit long (now (inputs .entry)) (now (outputs .entry)) (now (calculations .entry)) (now (files .entry)) (now (values .entry)))
-        (innerOf (coreIn (now (kept .entry))) (areasOf (now (words .entry)) (now (results .entry)) (now (fixed .entry)) (now (block .entry))) (memoryIn (now (kept .entry))) (filesIn (now (values .entry)) (now (area .entry)) (now (counts .entry)))) (asked frame (now (body .entry))))
-        (areasOf (now (words .exit)) (now (results .entry)) (now (fixed .exit)) (now (block .exit))) (filesIn (now (values .entry)) (now (area .exit)) (now (counts .exit))) (portIn (now (kept .entry))) (now (kept .exit))
-        (now (area .entry)) (now (counts .entry)) (now (area .exit)) (now (counts .exit)) (now (buffer .entry)) (now (buffer .exit)) r) ⌝ }
+    requires { ⌜ (longestReply ≤ length (now buffer)) × (clockFits (coreIn (numbersIn (now unit)) .clock) ≡ true) ⌝ }
+    ensures { λ r. ⌜ (Ready (now (unit .entry)) (now (records .entry)) → readable (numbersIn (now (unit .entry))) ≡ true → Acted
+        (stepOf (configIn (now (unit .entry)))
+        (innerIn (now (unit .entry)) (now (block .entry)) (now (records .entry))) (asked frame (now (body .entry))))
+        (areasIn (now (unit .exit)) (now (block .exit)))
+        (filesIn (configIn (now (unit .entry)) .values) (now (records .exit)) (unitIn (now (unit .exit)) .counts)) (portIn (numbersIn (now (unit .entry)))) (numbersIn (now (unit .exit)))
+        (now (records .entry)) (unitIn (now (unit .entry)) .counts) (now (records .exit)) (unitIn (now (unit .exit)) .counts)
+        (now (buffer .entry)) (now (buffer .exit)) r) ⌝ }
+    ensures { λ _. ⌜ Steady (now (unit .entry)) (now (unit .exit)) ⌝ }
 {
-    if control::breaks_off(hold_kept(kept), frame, body) {
-        keep_hold(kept, Hold::Free);
+    told_long(unit);
+    if control::breaks_off(hold_kept(unit), frame, body) {
+        keep_hold(unit, Hold::Free);
         return refused(Outcome::BrokenOff);
     }
     let function = frame.function;
     match function {
-        0x00 => scanned(inputs::scan(inputs, words, frame, body, buffer)),
-        0x03 => scanned(calculations::scan(calculations, results, frame, body, buffer)),
-        0x04 => scanned(history::serve(files, values, area, counts, kept, frame, body, buffer)),
-        0x0A => scanned(tables::scan(inputs, fixed, words, frame, body, buffer)),
+        0x00 => scanned(inputs::scan(unit, frame, body, buffer)),
+        0x03 => scanned(calculations::scan(unit, frame, body, buffer)),
+        0x04 => scanned(history::serve(unit, records, frame, body, buffer)),
+        0x0A => scanned(tables::scan(unit, frame, body, buffer)),
         0x10 => {
-            let hold = hold_kept(kept);
-            let ran = control::control(outputs, hold, frame, body, buffer);
-            controlled(kept, ran)
+            let hold = hold_kept(unit);
+            let ran = control::control(unit, hold, frame, body, buffer);
+            controlled(unit, ran)
         }
-        0x20 => internal(inputs, kept, words, fixed, block, buffer, frame, body),
-        0x28 => returned(kept, fixed, block, buffer, frame, body),
+        0x20 => internal(unit, block, buffer, frame, body),
+        0x28 => returned(unit, block, buffer, frame, body),
         _ => refused(Outcome::Unknown),
     }
 }
 
 // The status and the mark are sent as the frame found them.
 pub fn served<'a>(
-    inputs: &'a [u8; 256],
-    outputs: &'a [u8; 256],
-    calculations: &'a [u8; 256],
-    files: &'a [u8; 32],
-    values: &'a [u8; 32],
-    kept: &mut [u16; 26],
-    words: &mut [u16; 256],
-    results: &'a [u32; 128],
-    fixed: &mut [u8; 528],
+    unit: &mut [u8; UNIT],
     block: &mut [u8],
-    area: &mut [u8; 38912],
-    counts: &mut [u8; 32],
+    records: &mut [u8],
     buffer: &mut [u8],
     frame: Frame,
     body: &'a [u8],
 ) -> Made
-    requires { ⌜ (longestReply ≤ length (now buffer)) × (clockFits (coreIn (now kept) .clock) ≡ true) ⌝ }
-    ensures { λ r. ⌜ ((unit long : ℕ) → Ready (configOf unit long (now (inputs .entry)) (now (outputs .entry)) (now (calculations .entry)) (now (files .entry)) (now (values .entry))) (memoryIn (now (kept .entry))) (now (area .entry)) (now (counts .entry)) → readable (now (kept .entry)) ≡ true → MakesIn
-        (served (configOf unit long (now (inputs .entry)) (now (outputs .entry)) (now (calculations .entry)) (now (files .entry)) (now (values .entry))) (innerOf (coreIn (now (kept .entry))) (areasOf (now (words .entry)) (now (results .entry)) (now (fixed .entry)) (now (block .entry))) (memoryIn (now (kept .entry))) (filesIn (now (values .entry)) (now (area .entry)) (now (counts .entry)))) (asked frame (now (body .entry))))
-        (stepOf (configOf unit long (now (inputs .entry)) (now (outputs .entry)) (now (calculations .entry)) (now (files .entry)) (now (values .entry))) (innerOf (coreIn (now (kept .entry))) (areasOf (now (words .entry)) (now (results .entry)) (now (fixed .entry)) (now (block .entry))) (memoryIn (now (kept .entry))) (filesIn (now (values .entry)) (now (area .entry)) (now (counts .entry)))) (asked frame (now (body .entry))) .change)
-        (portIn (now (kept .entry)) .mark) (areasOf (now (words .exit)) (now (results .entry)) (now (fixed .exit)) (now (block .exit))) (filesIn (now (values .entry)) (now (area .exit)) (now (counts .exit))) (heardBy (portIn (now (kept .entry))) (r .outcome)) (now (kept .exit)) (now (area .entry)) (now (counts .entry)) (now (area .exit)) (now (counts .exit)) (now (buffer .entry)) (now (buffer .exit)) r) ⌝ }
+    requires { ⌜ (longestReply ≤ length (now buffer)) × (clockFits (coreIn (numbersIn (now unit)) .clock) ≡ true) ⌝ }
+    ensures { λ r. ⌜ (Ready (now (unit .entry)) (now (records .entry)) → readable (numbersIn (now (unit .entry))) ≡ true → MakesIn
+        (served (configIn (now (unit .entry)))
+        (innerIn (now (unit .entry)) (now (block .entry)) (now (records .entry))) (asked frame (now (body .entry))))
+        (stepOf (configIn (now (unit .entry)))
+        (innerIn (now (unit .entry)) (now (block .entry)) (now (records .entry))) (asked frame (now (body .entry))) .change)
+        (portIn (numbersIn (now (unit .entry))) .mark) (areasIn (now (unit .exit)) (now (block .exit)))
+        (filesIn (configIn (now (unit .entry)) .values) (now (records .exit)) (unitIn (now (unit .exit)) .counts))
+        (heardBy (portIn (numbersIn (now (unit .entry)))) (r .outcome)) (numbersIn (now (unit .exit)))
+        (now (records .entry)) (unitIn (now (unit .entry)) .counts) (now (records .exit)) (unitIn (now (unit .exit)) .counts)
+        (now (buffer .entry)) (now (buffer .exit)) r) ⌝ }
+    ensures { λ _. ⌜ Steady (now (unit .entry)) (now (unit .exit)) ⌝ }
 {
-    let status = status_in(kept);
-    let port = port_status_in(kept);
-    let step = act(
-        inputs,
-        outputs,
-        calculations,
-        files,
-        values,
-        kept,
-        words,
-        results,
-        fixed,
-        block,
-        area,
-        counts,
-        buffer,
-        frame,
-        body,
-    );
+    let status = status_in(unit);
+    let port = port_status_in(unit);
+    let step = act(unit, block, records, buffer, frame, body);
     let outcome = step.outcome;
     let action = step.action;
     let sent = finish(status, frame, outcome, step.count, port, buffer);
-    settle(kept, frame, outcome);
+    settle(unit, frame, outcome);
     Made {
         outcome: outcome,
         action: action,

@@ -8,7 +8,7 @@ use native.Mathlib.Omega.{arith}
 use mathlib.Core.List.{List, _∷_, _++_}
 use mathlib.Core.Bool.{Bool, true, false, not, _&&_}
 use borrow.Author.Tests.{leb-true, le-leb, lt-leb, lt-ltb, le-ltb, eq-eqb, ne-eqb}
-use lib.Dec.{eqb}
+use lib.Dec.{lit<, eqb}
 use lib.ListN.{length, getD}
 use lib.Seq.{drop-cons}
 use Rattle.chars.specs.Put.{part}
@@ -22,6 +22,8 @@ use Rattle.model.specs.Tables.{standsAt, tableAt, endOf, startOf, tableOf, numb
 use Rattle.model.specs.declared.Outcome.the-variants.{Unknown, NotValid, TooLong}
 use Rattle.model.specs.declared.Table.{Table}
 use Rattle.model.specs.declared.Filled.{Filled}
+use Rattle.layout.specs.Unit.{unitSizes, unitLong, fixedRegion, unitOf, unitIn}
+use Rattle.layout.proofs.UnitLaws.{region-size}
 use Rattle.tables.specs.Judged.{allSendable}
 use Rattle.model.proofs.Conditions.{and-left}
 use Rattle.points.proofs.NumberLaws.{within-low, within-high, within-both}
@@ -176,6 +178,11 @@ pub scan-fills : (table area words : List ℕ) (k : ℕ) {one two own : Table} {
     → Fills entry exit (sendOf table area words one two own) r → Fills entry exit (tableScan table area words k) r
 unfolding tableScan
 scan-fills table area words k e f g a = rw (e, f, g) at a
+
+-- the fixed area as it was lent has the table area in it
+pub fixed-long : (u fixed : List ℕ) → length u ≡ unitLong → fixed ≡ unitIn u .fixed → length fixed ≡ 528
+unfolding unitOf unitSizes
+fixed-long u fixed l e = ap length e ∙ region-size u l fixedRegion (lit< tt)
 
 module _ (table fixed words : List ℕ) (q : Request) where
   pub tables-low : q .command < 0x41 → tablesOf table fixed words q ≡ refuses Unknown

@@ -1,13 +1,12 @@
 // Function 0Ah: the scan of a table, with the two that its nibbles name.
+use layout::UNIT;
 use model::Filled;
 use model::Frame;
 use model::Input;
 use model::Outcome;
 use model::Reply;
 use model::Table;
-use points::has_input;
 use points::refused;
-use points::word_of;
 ghost use mathlib.Core.Path.{_≡_};
 ghost use Prim.Native.Nat.{_+_, _*_, _≤_};
 ghost use lib.ListN.{length};
@@ -18,6 +17,7 @@ ghost use Rattle.model.specs.Frame.{asked};
 ghost use Rattle.model.specs.Config.{has, every};
 ghost use Rattle.model.specs.Scan.{Fills, inRoom};
 ghost use Rattle.model.specs.Tables.{standsAt, tableAt, startOf, tableOf, sendable, wordIn, sendOf, tableScan, tablesOf};
+ghost use Rattle.layout.specs.Unit.{unitIn, configIn};
 ghost use Rattle.tables.specs.Judged.{Within, allSendable};
 
 fn stands(area: &[u8], s: usize) -> bool
@@ -92,36 +92,36 @@ fn table_of(area: &[u8], k: u8) -> Table
 }
 
 // Whether each of the n numbers of area from index from on is equipped.
-fn equipped(table: &[u8; 256], area: &[u8], from: usize, n: usize) -> bool
+fn equipped(unit: &[u8; UNIT], area: &[u8], from: usize, n: usize) -> bool
     requires { ⌜ from + n ≤ length (now area) ⌝ }
-    ensures { λ r. ⌜ r ≡ every (has (now (table .entry))) (part (now (area .entry)) from n) ⌝ }
+    ensures { λ r. ⌜ r ≡ every (has (configIn (now (unit .entry)) .inputs)) (part (now (area .entry)) from n) ⌝ }
 {
     for i in 0..n {
-        if has_input(table, Input(area[from + i])) {} else {
+        if layout::has_input(unit, Input(area[from + i])) {} else {
             return false;
         }
     }
     true
 }
 
-fn can_send(table: &[u8; 256], area: &[u8], t: Table) -> bool
+fn can_send(unit: &[u8; UNIT], area: &[u8], t: Table) -> bool
     requires { ⌜ Within (now area) t ⌝ }
-    ensures { λ r. ⌜ r ≡ sendable (now (table .entry)) (now (area .entry)) t ⌝ }
+    ensures { λ r. ⌜ r ≡ sendable (configIn (now (unit .entry)) .inputs) (now (area .entry)) t ⌝ }
 {
     if t.present {
-        equipped(table, area, t.start, t.quantity as usize)
+        equipped(unit, area, t.start, t.quantity as usize)
     } else {
         false
     }
 }
 
-fn can_send_all(table: &[u8; 256], area: &[u8], one: Table, two: Table, own: Table) -> bool
+fn can_send_all(unit: &[u8; UNIT], area: &[u8], one: Table, two: Table, own: Table) -> bool
     requires { ⌜ Within (now area) one × Within (now area) two × Within (now area) own ⌝ }
-    ensures { λ r. ⌜ r ≡ allSendable (now (table .entry)) (now (area .entry)) one two own ⌝ }
+    ensures { λ r. ⌜ r ≡ allSendable (configIn (now (unit .entry)) .inputs) (now (area .entry)) one two own ⌝ }
 {
-    if can_send(table, area, own) {
-        if can_send(table, area, one) {
-            can_send(table, area, two)
+    if can_send(unit, area, own) {
+        if can_send(unit, area, one) {
+            can_send(unit, area, two)
         } else {
             false
         }
@@ -135,17 +135,18 @@ fn write(
     area: &[u8],
     from: usize,
     n: usize,
-    words: &[u16; 256],
+    unit: &[u8; UNIT],
     reply: &mut [u8],
     at: usize,
 ) -> usize
     requires { ⌜ (from + n ≤ length (now area)) × (at + 2 * n ≤ length (now reply)) ⌝ }
-    ensures { λ r. ⌜ Gathered (wordIn (now (words .entry))) (part (now (area .entry)) from n) (now (reply .entry)) at (now (reply .exit)) r ⌝ }
+    ensures { λ r. ⌜ Gathered (wordIn (unitIn (now (unit .entry)) .words)) (part (now (area .entry)) from n)
+        (now (reply .entry)) at (now (reply .exit)) r ⌝ }
     ensures { λ r. ⌜ r ≡ at + 2 * n ⌝ }
 {
     let mut to = at;
     for i in 0..n {
-        chars::put_word(reply, to, word_of(words, Input(area[from + i])));
+        chars::put_word(reply, to, layout::word_of(unit, Input(area[from + i])));
         to += 2;
     }
     to
@@ -153,27 +154,27 @@ fn write(
 
 // Nothing is written before all three tables and the number of words are judged: a refusal has no data.
 fn send(
-    table: &[u8; 256],
+    unit: &[u8; UNIT],
     area: &[u8],
-    words: &[u16; 256],
     one: Table,
     two: Table,
     own: Table,
     reply: &mut [u8],
 ) -> Filled
     requires { ⌜ (longestReply ≤ length (now reply)) × (Within (now area) one × Within (now area) two × Within (now area) own) ⌝ }
-    ensures { λ r. ⌜ Fills (now (reply .entry)) (now (reply .exit)) (sendOf (now (table .entry)) (now (area .entry)) (now (words .entry)) one two own) r ⌝ }
+    ensures { λ r. ⌜ Fills (now (reply .entry)) (now (reply .exit))
+        (sendOf (configIn (now (unit .entry)) .inputs) (now (area .entry)) (unitIn (now (unit .entry)) .words) one two own) r ⌝ }
 {
-    if can_send_all(table, area, one, two, own) {
+    if can_send_all(unit, area, one, two, own) {
         let l = one.quantity as usize;
         let m = two.quantity as usize;
         let n = own.quantity as usize;
         if 255 < l + m + n {
             return refused(Outcome::TooLong);
         }
-        let a = write(area, one.start, l, words, reply, Reply::HEAD);
-        let b = write(area, two.start, m, words, reply, a);
-        let c = write(area, own.start, n, words, reply, b);
+        let a = write(area, one.start, l, unit, reply, Reply::HEAD);
+        let b = write(area, two.start, m, unit, reply, a);
+        let c = write(area, own.start, n, unit, reply, b);
         Filled {
             outcome: Outcome::Done,
             count: (c - Reply::HEAD) as u16,
@@ -183,25 +184,25 @@ fn send(
     }
 }
 
-fn table_scan(table: &[u8; 256], area: &[u8], words: &[u16; 256], k: u8, reply: &mut [u8]) -> Filled
+fn table_scan(unit: &[u8; UNIT], area: &[u8], k: u8, reply: &mut [u8]) -> Filled
     requires { ⌜ longestReply ≤ length (now reply) ⌝ }
-    ensures { λ r. ⌜ Fills (now (reply .entry)) (now (reply .exit)) (tableScan (now (table .entry)) (now (area .entry)) (now (words .entry)) k) r ⌝ }
+    ensures { λ r. ⌜ Fills (now (reply .entry)) (now (reply .exit))
+        (tableScan (configIn (now (unit .entry)) .inputs) (now (area .entry)) (unitIn (now (unit .entry)) .words) k) r ⌝ }
 {
     let own = table_of(area, k);
     let one = table_of(area, own.nibbles / 16);
     let two = table_of(area, own.nibbles % 16);
-    send(table, area, words, one, two, own, reply)
+    send(unit, area, one, two, own, reply)
 }
 
-pub fn scan<'a>(
-    table: &'a [u8; 256],
-    fixed: &'a [u8; 528],
-    words: &'a [u16; 256],
-    frame: Frame,
-    body: &'a [u8],
-    reply: &mut [u8],
-) -> Filled
-    ensures { λ r. ⌜ Fills (now (reply .entry)) (now (reply .exit)) (inRoom (length (now (reply .entry))) (tablesOf (now (table .entry)) (now (fixed .entry)) (now (words .entry)) (asked frame (now (body .entry))))) r ⌝ }
+// Nothing is done: an array that is lent as a slice tells its length.
+fn told_long(unit: &[u8]) {}
+
+pub fn scan<'a>(unit: &'a [u8; UNIT], frame: Frame, body: &'a [u8], reply: &mut [u8]) -> Filled
+    ensures { λ r. ⌜ Fills (now (reply .entry)) (now (reply .exit))
+        (inRoom (length (now (reply .entry)))
+        (tablesOf (configIn (now (unit .entry)) .inputs) (unitIn (now (unit .entry)) .fixed) (unitIn (now (unit .entry)) .words)
+        (asked frame (now (body .entry))))) r ⌝ }
 {
     if reply.len() < Reply::LONGEST {
         return refused(Outcome::BufferShort);
@@ -216,6 +217,7 @@ pub fn scan<'a>(
     if body.len() != 0 {
         return refused(Outcome::WrongCount);
     }
-    let blocks = &fixed[..];
-    table_scan(table, &blocks[16..272], words, command % 16, reply)
+    told_long(unit);
+    let fixed = layout::fixed_of(unit);
+    table_scan(unit, &fixed[16..272], command % 16, reply)
 }

@@ -1,15 +1,18 @@
--- A fresh unit: what is cleared character by character, and the state that what is made and cleared stands for. Assumes nothing.
+-- A fresh unit: what is cleared character by character, and the state that what is laid and cleared stands for. Assumes nothing.
 use mathlib.Core.Path.{_≡_, refl, sym, ap, _∙_}
-use Prim.Native.Nat.{ℕ, zero, suc, _+_}
+use Prim.Native.Nat.{ℕ, zero, suc, _+_, _≤_}
 use native.Mathlib.Omega.{arith}
-use mathlib.Core.List.{List, []}
+use mathlib.Core.List.{List, [], _∷_}
+use mathlib.Core.Bool.{true}
 use lib.ListN.{length, getD, set, take, replicate, length-replicate, replicate-append-replicate}
 use lib.Seq.{take-all}
+use borrow.Author.Tests.{le-leb, eq-eqb}
 use Rattle.chars.specs.Put.{put}
 use Rattle.chars.proofs.PutLaws.{length-put, put-none, put-more, take-put-front}
 use Rattle.model.specs.Config.{Config}
 use Rattle.model.specs.State.{freshCore, freshAreas, freshHistory, freshPort, freshOf}
 use Rattle.model.specs.declared.Memory.the-variants.{Nothing}
+use Rattle.model.proofs.Conditions.{and-both}
 use Rattle.history.specs.Layout.{held, recordsIn, each, filesIn}
 use Rattle.numbers.specs.Numbers.{
   bitOf,
@@ -26,10 +29,16 @@ use Rattle.numbers.specs.Numbers.{
   coreIn,
   memoryIn,
   portIn,
+  putClock,
   Written,
 }
-use Rattle.events.specs.Kept.{keptOf, stateOf}
-use Rattle.unit.specs.Fresh.{Cleared}
+use Rattle.numbers.proofs.NumbersLaws.{written-readable}
+use Rattle.layout.specs.Unit.{unitLong, configLong, layoutNumber, Unit, unitIn, configIn, numbersIn, configGiven, setNumbers, blankUnit, blankOf, Renumbered, roomOf}
+use Rattle.layout.specs.Regions.{startIn}
+use Rattle.layout.proofs.UnitLaws.{renumbered-then}
+use Rattle.layout.proofs.BlankLaws.{blank-long, blank-means}
+use Rattle.events.specs.Kept.{keptOf, stateOf, ownedOf, keptIn, standing}
+use Rattle.unit.specs.Fresh.{freshUnit, Freshly}
 
 -- ---- the loop
 
@@ -47,7 +56,7 @@ zero-all xs i {ys} l e =
     let w : take (length (replicate {A = ℕ} i 0)) ys ≡ ys = take-all (length (replicate {A = ℕ} i 0)) ys (omega (arith, ap length e, length-put xs 0 (replicate i 0))) in
     sym w ∙ rw e z ∙ ap (λ (k : ℕ). replicate {A = ℕ} k 0) l
 
--- ---- the state
+-- ---- the records
 
 zero-at : (n f : ℕ) → getD (replicate {A = ℕ} n 0) f 0 ≡ 0
 zero-at zero f = refl
@@ -69,12 +78,57 @@ files-none : (values area : List ℕ) → filesIn values area (replicate 32 0) �
 unfolding filesIn
 files-none values area = each-none (recordsIn values area (replicate 32 0)) (λ f. none-held values area (replicate 32 0) f (zero-at 32 f)) 32
 
--- what is made and what is cleared, whatever the characters of records hold, is the definition's fresh unit
-pub fresh-is : (c : Config) {ws rs fx bl ns : List ℕ} (area : List ℕ) → Cleared (c .block) ws rs fx bl ns
-    → stateOf c (keptOf freshCore Nothing freshPort ws rs fx bl area ns) ≡ freshOf c
-unfolding freshOf freshAreas freshHistory
-fresh-is c area w = rw (w .words, w .results, w .fixed, w .block, w .counts, files-none (c .values) area)
+-- ---- the numbers
 
-pub fresh-written : Written freshCore Nothing freshPort (set (set (replicate 26 0) 0 1) 15 1)
+pub fresh-written : Written freshCore Nothing freshPort (numbersOf freshCore Nothing freshPort)
 unfolding freshCore freshPort numbersOf coreIn memoryIn portIn clockIn holdNumbers writeNumbers memoryNumbers markNumber bitOf holdIn writeIn replyIn markIn
 fresh-written = record { plain = refl; means = record { core = refl; memory = refl; port = refl } }
+
+fresh-numbers : set (putClock (record { day = 1; hour = 0; minute = 0; second = 0; ms = 0 }) (replicate 26 0)) 15 (bitOf true) ≡ numbersOf freshCore Nothing freshPort
+unfolding freshCore freshPort numbersOf holdNumbers writeNumbers memoryNumbers markNumber bitOf
+fresh-numbers = refl
+
+-- the memory of a configuration's characters, the clock kept in it and then the configure bit
+pub fresh-kept : (cs : List ℕ) {u v w : List ℕ} → length cs ≡ 836 → u ≡ blankUnit cs
+    → Renumbered u v (putClock (record { day = 1; hour = 0; minute = 0; second = 0; ms = 0 }) (numbersIn u)) → Renumbered v w (set (numbersIn v) 15 (bitOf true))
+    → (unitIn w ≡ freshUnit (configGiven cs)) × (length w ≡ unitLong)
+unfolding startIn
+fresh-kept cs {u} {v} {w} l e a b =
+    let r = renumbered-then (λ (ks : List ℕ). set ks 15 (bitOf true)) u v w a b in
+    let m : unitIn u ≡ blankOf (configGiven cs) = ap unitIn e ∙ blank-means cs l in (
+      r .means
+          ∙ ap (λ (x : Unit). setNumbers x (set (putClock (record { day = 1; hour = 0; minute = 0; second = 0; ms = 0 }) (x .numbers)) 15 (bitOf true))) m
+          ∙ ap (setNumbers (blankOf (configGiven cs))) fresh-numbers,
+      r .long ∙ ap length e ∙ blank-long cs,
+    )
+
+-- ---- the state
+
+-- a unit that was laid of a configuration's characters, with a parameter block as long as they say
+module _ (cs : List ℕ) {n : ℕ} (as-said : n ≡ configGiven cs .block) {u bl : List ℕ} (area : List ℕ) (f : Freshly cs n u bl) where
+  pub laid-config : configIn u ≡ configGiven cs
+  laid-config = ap (λ (x : Unit). x .config) (f .means)
+
+  laid-numbers : numbersIn u ≡ numbersOf freshCore Nothing freshPort
+  laid-numbers = ap (λ (x : Unit). x .numbers) (f .means)
+
+  blank : bl ≡ replicate (configIn u .block) 0
+  blank = f .block-cleared ∙ ap (λ (k : ℕ). replicate {A = ℕ} k 0) (as-said ∙ sym (ap (λ (c : Config). c .block) laid-config))
+
+  -- whatever the characters of records hold, it is the definition's fresh unit
+  pub laid-state : stateOf (configIn u) (keptIn (ownedOf u bl area)) ≡ freshOf (configIn u)
+  unfolding freshOf freshAreas freshHistory
+  laid-state =
+      let w = fresh-written .means in
+      let ks = laid-numbers in
+      let x = f .means in
+      (λ i. stateOf (configIn u) (keptOf (coreIn (ks i)) (memoryIn (ks i)) (portIn (ks i)) (x i .words) (x i .values) (x i .fixed) (blank i) area (x i .counts)))
+      ∙ (λ i. stateOf (configIn u)
+      (keptOf (w .core i) (w .memory i) (w .port i) (replicate 256 0) (replicate 128 0) (replicate 528 0) (replicate (configIn u .block) 0) area (replicate 32 0)))
+      ∙ rw (files-none (configIn u .values) area)
+
+  pub laid-stands : roomOf (configIn u) ≤ length area → standing (ownedOf u bl area) ≡ true
+  unfolding standing
+  laid-stands r =
+      and-both (eq-eqb _ _ (ap (λ (x : Unit). x .layout) (f .means)))
+      (and-both (le-leb _ _ r) (rw laid-numbers (written-readable fresh-written)))

@@ -23,20 +23,26 @@ use Rattle.model.specs.declared.Mark.{Mark}
 use Rattle.model.specs.declared.Port.{Port}
 use Rattle.model.proofs.Conditions.{false-true, by-bool}
 use Rattle.model.proofs.FrameLaws.{heard-whole}
-use Rattle.numbers.specs.Numbers.{portIn, readable, Written}
+use Rattle.numbers.specs.Numbers.{portIn, Written}
 use Rattle.numbers.proofs.NumbersLaws.{written-readable}
 use Rattle.history.specs.Layout.{filesIn}
 use Rattle.history.specs.Change.{Change}
+use Rattle.history.proofs.LayoutLaws.{length-area}
+use Rattle.layout.specs.Unit.{Renumbered, unitIn, configIn, numbersIn}
+use Rattle.layout.proofs.UnitLaws.{numbers-left, numbers-only}
 use Rattle.model.proofs.TurnedAway.{short-away, unfit-away, works}
-use Rattle.events.specs.Kept.{Kept, areasOf, innerOf, stateOf, Owned, keptIn}
+use Rattle.events.specs.Kept.{Kept, areasIn, innerOf, stateOf, Owned, keptIn, standing, Steady}
 use Rattle.events.specs.Changes.{stepOf, changeFramed, changeHeard, changeMade, changeOf}
+use Rattle.events.proofs.FitLaws.{stands-again}
 use Rattle.events.proofs.HeedLaws.{still}
 use Rattle.replies.specs.Ends.{heardBy, portBy, heardIn}
 use Rattle.replies.proofs.ReplyLaws.{heard-written}
 use Rattle.commands.specs.declared.Made.{Made as MadeOf}
 use Rattle.commands.specs.Acts.{Makes}
+use Rattle.commands.proofs.CommandLaws.{unshifted-numbers, numbers-kept}
 use Rattle.commands.proofs.BroadcastLaws.{makes-quiet}
 use Rattle.serving.specs.Served.{MakesIn}
+use Rattle.serving.proofs.StepLaws.{steady-same}
 use Rattle.unit.specs.Turn.{Turns, Serves}
 use Rattle.unit.proofs.MarkLaws.{port-judged}
 
@@ -100,6 +106,7 @@ module _ (c : Config) (s : List ℕ) (k : Kept) (entry : List ℕ) {r : MadeOf} 
         acted = sym (ap (λ (x : Result). x .action) (w .0));
         counted = sym (ap (λ (x : Result). length (x .reply)) (w .0));
         inside = omega arith;
+        small = omega arith;
         written = sym (put-none entry 0) ∙ sym (ap (λ (x : Result). put entry 0 (x .reply)) (w .0));
         next = sym (w .1);
         changed = rw t (still (k .area) (k .counts));
@@ -117,28 +124,29 @@ module _ (c : Config) (s : List ℕ) (k : Kept) (entry : List ℕ) {r : MadeOf} 
         acted = sym (ap (λ (x : Result). x .action) (w .0));
         counted = sym (ap (λ (x : Result). length (x .reply)) (w .0));
         inside = omega arith;
+        small = omega arith;
         written = sym (put-none entry 0) ∙ sym (ap (λ (x : Result). put entry 0 (x .reply)) (w .0));
         next = sym (w .1);
         changed = rw (t, b) (still (k .area) (k .counts));
       })
 
--- ---- the numbers
+-- ---- what is owned
 
-module _ (c : Config) (s : List ℕ) (x : Owned) (entry : List ℕ) {r : MadeOf} where
-  -- 18 whatever the numbers are
-  pub serves-short : length entry < longestReply → r ≡ record { outcome = BufferShort; action = Rest; sent = 0 } → Serves c s x x entry entry r
+module _ (s : List ℕ) (x : Owned) (entry : List ℕ) {r : MadeOf} where
+  -- 18 whatever is lent
+  pub serves-short : length entry < longestReply → r ≡ record { outcome = BufferShort; action = Rest; sent = 0 } → Serves s x x entry entry r
   serves-short l e =
       record {
-        read = λ t. record { turns = turns-short c s (keptIn x) entry l e; stand = t };
+        read = λ t. record { turns = turns-short (configIn (x .unit)) s (keptIn x) entry l e; stand = t; steady = steady-same (x .unit) };
         unread = λ _. record { shown = rw (lt-ltb (length entry) longestReply l) e; written = refl; owned = refl };
       }
 
-  -- 17 where they are not those of a unit that fits
-  pub serves-unfit : longestReply ≤ length entry → (readable (x .numbers) ≡ true → fits c (stateOf c (keptIn x)) ≡ false)
-      → r ≡ record { outcome = NotConfigured; action = Rest; sent = 0 } → Serves c s x x entry entry r
+  -- 17 where it is not such as a unit that fits writes
+  pub serves-unfit : longestReply ≤ length entry → (standing x ≡ true → fits (configIn (x .unit)) (stateOf (configIn (x .unit)) (keptIn x)) ≡ false)
+      → r ≡ record { outcome = NotConfigured; action = Rest; sent = 0 } → Serves s x x entry entry r
   serves-unfit l b e =
       record {
-        read = λ t. record { turns = turns-unfit c s (keptIn x) entry l (b t) e; stand = t };
+        read = λ t. record { turns = turns-unfit (configIn (x .unit)) s (keptIn x) entry l (b t) e; stand = t; steady = steady-same (x .unit) };
         unread = λ _. record { shown = rw (le-ltb (length entry) longestReply l) e; written = refl; owned = refl };
       }
 
@@ -156,6 +164,7 @@ makes-marked s v n =
         acted = z .acted;
         counted = z .counted;
         inside = z .inside;
+        small = z .small;
         written = z .written;
         kept = rw (z .kept .means .core, z .kept .means .memory, z .kept .means .port) at (heard-written _ s _ (written-readable (z .kept)) (n .1));
         areas = z .areas;
@@ -164,18 +173,30 @@ makes-marked s v n =
       changed = v .changed;
     })
 
-pub serves-made : (c : Config) (s : List ℕ) (x : Owned) (entry : List ℕ) (y : Owned) {exit : List ℕ} (m : MadeOf) → readable (x .numbers) ≡ true → longestReply ≤ length entry → fits c (stateOf c (keptIn x)) ≡ true
-    → MakesIn (judged c (stateOf c (keptIn x) .inner) s (heardOf s)) (changeHeard c (stateOf c (keptIn x) .inner) s (heardOf s)) (portIn (x .numbers) .mark)
-    (areasOf (y .words) (y .results) (y .fixed) (y .block)) (filesIn (c .values) (y .area) (y .counts)) (portBy (portIn (x .numbers)) s (m .outcome)) (y .numbers)
-    (x .area) (x .counts) (y .area) (y .counts) entry exit m
-    → Serves c s x y entry exit m
+-- the same in a unit's memory, of which only numbers are written
+pub unit-marked : (s v w block values : List ℕ) {m : Made} {ch : Change} {mark : Mark} {p : Port} {area held area′ entry exit : List ℕ} {r x : MadeOf}
+    → MakesIn m ch mark (areasIn v block) (filesIn values area′ (unitIn v .counts)) p (numbersIn v) area held area′ (unitIn v .counts) entry exit r
+    → (x ≡ r) × Renumbered v w (heardIn (numbersIn v) s (r .outcome))
+    → MakesIn m ch mark (areasIn w block) (filesIn values area′ (unitIn w .counts)) (portBy p s (x .outcome)) (numbersIn w) area held area′ (unitIn w .counts) entry exit x
+unit-marked s v w block values h n =
+    let only = numbers-only v w (n .1) in
+    rw (unshifted-numbers v w only .counts, numbers-kept v block w only) (makes-marked s h (n .0, numbers-left v w (n .1)))
+
+pub serves-made : (s : List ℕ) (x : Owned) (entry : List ℕ) (y : Owned) {exit : List ℕ} (m : MadeOf) → standing x ≡ true → longestReply ≤ length entry
+    → fits (configIn (x .unit)) (stateOf (configIn (x .unit)) (keptIn x)) ≡ true
+    → MakesIn (judged (configIn (x .unit)) (stateOf (configIn (x .unit)) (keptIn x) .inner) s (heardOf s)) (changeHeard (configIn (x .unit)) (stateOf (configIn (x .unit)) (keptIn x) .inner) s (heardOf s))
+    (portIn (numbersIn (x .unit)) .mark) (areasIn (y .unit) (y .block)) (filesIn (configIn (x .unit) .values) (y .area) (unitIn (y .unit) .counts)) (portBy (portIn (numbersIn (x .unit))) s (m .outcome)) (numbersIn (y .unit))
+    (x .area) (unitIn (x .unit) .counts) (y .area) (unitIn (y .unit) .counts) entry exit m → Steady (x .unit) (y .unit)
+    → Serves s x y entry exit m
 unfolding short makeOf shows moves changeOf changeMade
-serves-made c s x entry y {exit} m g l b v =
+serves-made s x entry y {exit} m g l b v steady =
+    let c = configIn (x .unit) in
     let t : short (stretch (length entry) s) ≡ false = le-ltb (length entry) 520 l in
     let w = works c (stateOf c (keptIn x)) (stretch (length entry) s) t b in
     let z = v .makes in
     let k = z .kept in
-    let port = sym (port-judged c (stateOf c (keptIn x) .inner) s (heardOf s) (portIn (x .numbers)) (m .outcome) (length entry) (z .answered)) in
+    let port = sym (port-judged c (stateOf c (keptIn x) .inner) s (heardOf s) (portIn (numbersIn (x .unit))) (m .outcome) (length entry) (z .answered)) in
+    let long : length (y .area) ≡ length (x .area) = ap length (v .changed .moved) ∙ length-area _ _ _ in
     record {
       read = λ _. record {
         turns = record {
@@ -183,6 +204,7 @@ serves-made c s x entry y {exit} m g l b v =
           acted = z .acted ∙ sym (ap (λ (x : Result). x .action) (w .0));
           counted = z .counted ∙ sym (ap (λ (x : Result). length (x .reply)) (w .0));
           inside = z .inside;
+          small = z .small;
           written = z .written ∙ sym (ap (λ (x : Result). put entry 0 (x .reply)) (w .0));
           next = (λ j.
               record {
@@ -192,11 +214,12 @@ serves-made c s x entry y {exit} m g l b v =
               ∙ sym (w .1);
           changed = rw (t, b) (v .changed);
         };
-        stand = written-readable k;
+        stand = stands-again x y g steady long (written-readable k);
+        steady = steady;
       };
       unread = λ u. false-true (sym u ∙ g);
     }
 
 -- what is to be sent lies in the buffer
-pub sent-inside : (c : Config) (s : List ℕ) (x y : Owned) {entry exit : List ℕ} {r : MadeOf} → Serves c s x y entry exit r → r .sent ≤ length entry
-sent-inside c s x y h = by-bool (readable (x .numbers)) (λ e. h .read e .turns .inside) (λ e. rw (h .unread e .shown) (omega arith))
+pub sent-inside : (s : List ℕ) (x y : Owned) {entry exit : List ℕ} {r : MadeOf} → Serves s x y entry exit r → r .sent ≤ length entry
+sent-inside s x y h = by-bool (standing x) (λ e. h .read e .turns .inside) (λ e. rw (h .unread e .shown) (omega arith))

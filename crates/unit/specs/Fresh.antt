@@ -2,19 +2,19 @@
 use mathlib.Core.Path.{_≡_}
 use Prim.Native.Nat.{ℕ}
 use mathlib.Core.List.{List}
-use lib.ListN.{replicate}
+use lib.ListN.{length, replicate}
+use Rattle.model.specs.Config.{Config}
 use Rattle.model.specs.State.{freshCore, freshPort}
 use Rattle.model.specs.declared.Memory.the-variants.{Nothing}
-use Rattle.numbers.specs.Numbers.{Written}
+use Rattle.numbers.specs.Numbers.{numbersOf}
+use Rattle.layout.specs.Unit.{Unit, unitLong, configGiven, unitIn, setNumbers, blankOf}
 
--- every point, table, block and count is 0
-pub record Cleared (long : ℕ) (ws rs fx bl ns : List ℕ) : Type 0 where
-  pub words : ws ≡ replicate 256 0
-  pub results : rs ≡ replicate 128 0
-  pub fixed : fx ≡ replicate 528 0
-  pub block : bl ≡ replicate long 0
-  pub counts : ns ≡ replicate 32 0
+-- a unit of this configuration with nothing in it but the numbers of a fresh one
+abbrev pub freshUnit : Config → Unit
+freshUnit c = setNumbers (blankOf c) (numbersOf freshCore Nothing freshPort)
 
-pub record Freshly (long : ℕ) (numbers words results fixed block counts : List ℕ) : Type 0 where
-  pub kept : Written freshCore Nothing freshPort numbers
-  pub cleared : Cleared long words results fixed block counts
+-- made of the characters cs of a configuration and a parameter block of that length
+pub record Freshly (cs : List ℕ) (long : ℕ) (u block : List ℕ) : Type 0 where
+  pub means : unitIn u ≡ freshUnit (configGiven cs)
+  pub long-is : length u ≡ unitLong
+  pub block-cleared : block ≡ replicate long 0

@@ -13,10 +13,10 @@ use Rattle.model.specs.Run.{resultOf, nextOf}
 use Rattle.model.specs.declared.Outcome.the-variants.{NotConfigured, BufferShort}
 use Rattle.model.specs.declared.Answer.the-variants.{Ended}
 use Rattle.model.specs.declared.Action.the-variants.{Rest}
-use Rattle.numbers.specs.Numbers.{readable}
-use Rattle.history.specs.Change.{Changed}
+use Rattle.layout.specs.Unit.{configIn}
 use Rattle.commands.specs.declared.Made.{Made}
-use Rattle.events.specs.Kept.{Kept, stateOf, Owned, keptIn}
+use Rattle.events.specs.Kept.{Kept, stateOf, Owned, keptIn, standing, Steady}
+use Rattle.events.specs.Heed.{Shifted}
 use Rattle.events.specs.Changes.{changeOf}
 
 -- a stretch that found the unit as k left it as l: what it showed is the definition's result, the buffer holds the reply and is
@@ -26,14 +26,16 @@ pub record Turns (c : Config) (s : List ℕ) (k l : Kept) (entry exit : List ℕ
   pub acted : r .action ≡ resultOf c (stateOf c k) (stretch (length entry) s) .action
   pub counted : r .sent ≡ length (resultOf c (stateOf c k) (stretch (length entry) s) .reply)
   pub inside : r .sent ≤ length entry
+  pub small : r .sent ≤ longestReply
   pub written : exit ≡ put entry 0 (resultOf c (stateOf c k) (stretch (length entry) s) .reply)
   pub next : stateOf c l ≡ nextOf c (stateOf c k) (stretch (length entry) s)
-  pub changed : Changed (changeOf c (stateOf c k) (stretch (length entry) s)) (k .area) (k .counts) (l .area) (l .counts)
+  pub changed : Shifted (changeOf c (stateOf c k) (stretch (length entry) s)) (k .area) (k .counts) (l .area) (l .counts)
 
--- the same of a unit in numbers, which stand afterwards
-pub record Served (c : Config) (s : List ℕ) (x y : Owned) (entry exit : List ℕ) (r : Made) : Type 0 where
-  pub turns : Turns c s (keptIn x) (keptIn y) entry exit r
-  pub stand : readable (y .numbers) ≡ true
+-- the same of what a caller owns, which is such as a unit writes afterwards and keeps its configuration
+pub record Served (s : List ℕ) (x y : Owned) (entry exit : List ℕ) (r : Made) : Type 0 where
+  pub turns : Turns (configIn (x .unit)) s (keptIn x) (keptIn y) entry exit r
+  pub stand : standing y ≡ true
+  pub steady : Steady (x .unit) (y .unit)
 
 -- 18, then 17: nothing is changed, sent or operated
 pub record Away (x y : Owned) (entry exit : List ℕ) (r : Made) : Type 0 where
@@ -41,7 +43,7 @@ pub record Away (x y : Owned) (entry exit : List ℕ) (r : Made) : Type 0 where
   pub written : exit ≡ entry
   pub owned : y ≡ x
 
--- a call found x and left y: served where the numbers are those of a unit, else turned away
-pub record Serves (c : Config) (s : List ℕ) (x y : Owned) (entry exit : List ℕ) (r : Made) : Type 0 where
-  pub read : readable (x .numbers) ≡ true → Served c s x y entry exit r
-  pub unread : readable (x .numbers) ≡ false → Away x y entry exit r
+-- a call found x and left y: served where x is such as a unit writes, else turned away
+pub record Serves (s : List ℕ) (x y : Owned) (entry exit : List ℕ) (r : Made) : Type 0 where
+  pub read : standing x ≡ true → Served s x y entry exit r
+  pub unread : standing x ≡ false → Away x y entry exit r

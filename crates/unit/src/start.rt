@@ -1,4 +1,6 @@
-// A fresh unit: the numbers and all that is lent. The characters of records need no clearing: none is counted.
+// A fresh unit: the configuration laid into its memory, and all that is kept. The characters of records need no clearing: none is counted.
+use layout::CONFIG;
+use layout::UNIT;
 ghost use mathlib.Core.Path.{_≡_};
 ghost use lib.ListN.{length, replicate};
 ghost use Rattle.unit.specs.Fresh.{Freshly};
@@ -13,23 +15,16 @@ fn zero(block: &mut [u8])
     }
 }
 
+// Nothing is done: an array that is lent as a slice tells its length.
+fn told_long(unit: &[u8]) {}
+
 // Day 1 of the clock and the configure bit: every other number of a fresh unit is 0.
-pub fn fresh(
-    kept: &mut [u16; 26],
-    words: &mut [u16; 256],
-    results: &mut [u32; 128],
-    fixed: &mut [u8; 528],
-    block: &mut [u8],
-    counts: &mut [u8; 32],
-)
-    ensures { λ _. ⌜ Freshly (length (now (block .entry))) (now (kept .exit)) (now (words .exit)) (now (results .exit)) (now (fixed .exit)) (now (block .exit)) (now (counts .exit)) ⌝ }
+pub fn fresh(unit: &mut [u8; UNIT], block: &mut [u8], config: &[u8; CONFIG])
+    ensures { λ _. ⌜ Freshly (now (config .entry)) (length (now (block .entry))) (now (unit .exit)) (now (block .exit)) ⌝ }
 {
-    *kept = [0; 26];
-    kept[0] = 1;
-    kept[15] = 1;
-    *words = [0; 256];
-    *results = [0; 128];
-    *fixed = [0; 528];
-    *counts = [0; 32];
+    told_long(config);
+    layout::begin(unit, config);
+    numbers::keep_clock(unit, 1, 0, 0, 0, 0);
+    numbers::keep_configure(unit, true);
     zero(block);
 }

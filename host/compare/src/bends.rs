@@ -1,6 +1,6 @@
 //! Kept states with one number out of range: 17 to every event.
 
-use crate::board::BLOCK;
+use crate::board::{header, Lent, BLOCK};
 use crate::event::{Change, Hold};
 use crate::pair::Pair;
 use crate::rng::Rng;
@@ -8,10 +8,13 @@ use crate::shapes;
 use independent::history::record_size;
 use independent::{Clock, HistoryReply, Select, Write};
 
+/// For how long a select or a write is held.
+const HOLD: u32 = header::HOLD_MS as u32;
+
 type Bend = fn(&mut Rng, &Pair) -> Option<Change>;
 
 /// Each field with what puts it out of range; none where the configuration leaves no room for it.
-pub const BENDS: [(&str, Bend); 22] = [
+pub const BENDS: [(&str, Bend); 23] = [
     ("day", |rng, p| {
         clock(p, |c| c.day = rng.pick(&[0, 367, 65_535]))
     }),
@@ -41,7 +44,7 @@ pub const BENDS: [(&str, Bend); 22] = [
         })))
     }),
     ("select's age", |rng, p| {
-        select(rng, p, |rng, s| s.age = rng.pick(&[5001, 65_535]))
+        select(rng, p, |rng, s| s.age = rng.pick(&[HOLD + 1, 65_535]))
     }),
     ("timed-out master", |rng, _| {
         Some(Change::Hold(Hold::TimedOut(no_master(rng))))
@@ -50,7 +53,7 @@ pub const BENDS: [(&str, Bend); 22] = [
         write(rng, p, |rng, w| w.master = no_master(rng))
     }),
     ("write's age", |rng, p| {
-        write(rng, p, |rng, w| w.age = rng.pick(&[5001, 65_535]))
+        write(rng, p, |rng, w| w.age = rng.pick(&[HOLD + 1, 65_535]))
     }),
     ("reply's master", |rng, p| {
         reply(rng, p, |rng, _, h| h.master = no_master(rng))
@@ -63,12 +66,12 @@ pub const BENDS: [(&str, Bend); 22] = [
     }),
     ("reply's quantity", |rng, p| {
         reply(rng, p, |rng, p, h| {
-            h.quantity = p.unit.counts[usize::from(h.file)] + 1 + rng.byte() % 200
+            h.quantity = p.unit.memory.count(h.file.into()) + 1 + rng.byte() % 200
         })
     }),
     ("reply's flag", |rng, p| {
         reply(rng, p, |_, p, h| {
-            (h.quantity, h.more) = (p.unit.counts[usize::from(h.file)], true)
+            (h.quantity, h.more) = (p.unit.memory.count(h.file.into()), true)
         })
     }),
     ("dump's quantity", |rng, p| reply(rng, p, short_dump)),
@@ -79,32 +82,48 @@ pub const BENDS: [(&str, Bend); 22] = [
     }),
     ("silence", |rng, p| {
         Some(Change::Port {
-            silence: rng.pick(&[60_001, 65_535]),
+            silence: rng.pick(&[header::SILENT_MS as u16 + 1, 65_535]),
             mark: p.state.mark,
         })
     }),
     ("mark", |rng, p| {
         Some(Change::Port {
-            silence: p.unit.kept[24],
+            silence: p.unit.memory.kept(header::SILENCE),
             mark: rng.pick(&[3, 4, 128, 255]),
         })
     }),
     ("records of a file", |rng, p| {
         let file = file(rng, p, true)?;
-        let many = rng.pick(&[33, 34, 64, 255]);
+        let many = rng.pick(&[header::ROOM + 1, header::ROOM + 2, 64, 255]);
         Some(Change::Records(
             file,
             shapes::records(rng, p.equipment.values[file], many),
         ))
     }),
     ("records of no file", |rng, p| {
-        let (file, many) = (file(rng, p, false)?, rng.pick(&[1, 2, 32, 33]));
+        let (file, many) = (
+            file(rng, p, false)?,
+            rng.pick(&[1, 2, header::ROOM, header::ROOM + 1]),
+        );
         Some(Change::Records(file, shapes::records(rng, 1, many)))
     }),
     ("block's length", |rng, p| {
-        let lent = p.lent;
-        let other = [0, lent.saturating_sub(1), (lent + 1).min(BLOCK), 512, BLOCK];
-        Some(Change::Lent(rng.pick(&other))).filter(|_| lent == p.equipment.length)
+        let length = p.lent.block;
+        let (less, more) = (length.saturating_sub(1), (length + 1).min(BLOCK));
+        let block = rng.pick(&[0, less, more, header::BLOCK, BLOCK]);
+        let lent = Lent { block, ..p.lent };
+        Some(Change::Lent(lent)).filter(|_| length == usize::from(p.equipment.length))
+    }),
+    ("room of the records", |rng, p| {
+        let any = rng.below(header::RECORDS);
+        let records = rng.pick(&[
+            0,
+            1,
+            any,
+            header::RECORDS - header::RECORD_SLOT,
+            header::RECORDS - 1,
+        ]);
+        Some(Change::Lent(Lent { records, ..p.lent }))
     }),
 ];
 
@@ -168,7 +187,7 @@ fn reply_of(file: u8, dump: bool, quantity: u8, more: bool) -> Option<Change> {
 /// A dump that said that more were held, and did not carry as many as fit; in an empty file, one of too many.
 fn short_dump(rng: &mut Rng, pair: &Pair, reply: &mut HistoryReply) {
     let most = 510 / record_size(pair.equipment.values[usize::from(reply.file)]);
-    let held = usize::from(pair.unit.counts[usize::from(reply.file)]);
+    let held = usize::from(pair.unit.memory.count(reply.file.into()));
     let quantity = rng.below(most.min(held) + 1) as u8;
     reply.dump = true;
     (reply.quantity, reply.more) = if rng.flip() {
@@ -179,7 +198,7 @@ fn short_dump(rng: &mut Rng, pair: &Pair, reply: &mut HistoryReply) {
 }
 
 fn file(rng: &mut Rng, pair: &Pair, equipped: bool) -> Option<usize> {
-    let files: Vec<usize> = (0..32)
+    let files: Vec<usize> = (0..header::FILES)
         .filter(|&f| (pair.equipment.files[f] != 0) == equipped)
         .collect();
     rng.pick_any(&files)

@@ -1,38 +1,50 @@
 //! The proved unit as a caller of its C interface sees it: its memory, and one safe function an entry.
 
-/// The characters of records.
-pub const AREA: usize = 38_912;
-/// How many kept numbers there are.
-pub const KEPT: usize = 26;
-/// The memory set aside for a parameter block: more than one may have, to lend too much.
-pub const BLOCK: usize = 600;
+/// The numbers of include/osturdam.h.
+pub mod header {
+    include!(concat!(env!("OUT_DIR"), "/header.rs"));
+}
 
-/// `struct osturdam_config`.
+use header::{CONFIG, FILES, INPUTS, KEPT, UNIT};
+
+/// The memory set aside for a parameter block, and for records: more than a unit has, to lend too much.
+pub const BLOCK: usize = header::BLOCK + 88;
+pub const RECORDS: usize = header::RECORDS + 64;
+
+/// What a configuration says, before it is laid out as characters.
 #[derive(Clone)]
 pub struct Equipment {
     pub unit: u16,
-    pub length: usize,
-    pub inputs: [u8; 256],
-    pub outputs: [u8; 256],
-    pub calculations: [u8; 256],
-    pub files: [u8; 32],
-    pub values: [u8; 32],
+    pub length: u16,
+    pub inputs: [u8; INPUTS],
+    pub outputs: [u8; INPUTS],
+    pub calculations: [u8; INPUTS],
+    pub files: [u8; FILES],
+    pub values: [u8; FILES],
 }
 
-/// `struct osturdam_unit`, with `struct osturdam_kept` as an array in its order.
+/// How much of what is set aside is lent.
+#[derive(Clone, Copy, PartialEq)]
+pub struct Lent {
+    pub block: usize,
+    pub records: usize,
+}
+
+/// `struct osturdam_unit`. Where the kept numbers lie is known here alone.
+#[derive(Clone, PartialEq)]
+pub struct Memory {
+    pub chars: [u8; UNIT],
+}
+
+/// `struct osturdam_together`, with more room.
 #[derive(Clone, PartialEq)]
 pub struct Unit {
-    pub kept: [u16; KEPT],
-    pub words: [u16; 256],
-    pub results: [u32; 128],
-    pub fixed: [u8; 528],
+    pub memory: Memory,
     pub block: [u8; BLOCK],
-    pub area: [u8; AREA],
-    pub counts: [u8; 32],
+    pub records: [u8; RECORDS],
 }
 
 /// `struct osturdam_turned`.
-#[repr(C)]
 #[derive(Clone, Copy, Debug, PartialEq)]
 pub struct Turned {
     pub sent: usize,
@@ -41,64 +53,45 @@ pub struct Turned {
     pub output: u8,
 }
 
-/// Declares the entries, each with the configuration's parts in front of its own.
-macro_rules! entries {
-    ($(fn $name:ident($($part:ident: $kind:ty),*) -> $result:ty;)*) => {
-        extern "C" {
-            $(fn $name(
-                unit: u16, length: usize, inputs: &[u8; 256], outputs: &[u8; 256], calculations: &[u8; 256],
-                files: &[u8; 32], values: &[u8; 32], $($part: $kind),*
-            ) -> $result;)*
-        }
-    };
-}
-
-entries! {
-    fn osturdam_stretch(
-        kept: &mut [u16; KEPT], words: &mut [u16; 256], results: &[u32; 128], fixed: &mut [u8; 528], block: *mut u8,
-        lent: usize, area: &mut [u8; AREA], counts: &mut [u8; 32], buffer: *mut u8, room: usize, stretch: *const u8,
-        heard: usize
-    ) -> Turned;
-    fn osturdam_elapsed(kept: &mut [u16; KEPT], block: *const u8, lent: usize, counts: &[u8; 32], ms: u32) -> u8;
-    fn osturdam_set_word(
-        kept: &[u16; KEPT], words: &mut [u16; 256], block: *const u8, lent: usize, counts: &[u8; 32], input: u8,
-        word: u16
-    ) -> u8;
-    fn osturdam_pulses(
-        kept: &[u16; KEPT], words: &mut [u16; 256], block: *const u8, lent: usize, counts: &[u8; 32], input: u8,
-        count: u16
-    ) -> u8;
-    fn osturdam_set_value(
-        kept: &[u16; KEPT], results: &mut [u32; 128], block: *const u8, lent: usize, counts: &[u8; 32],
-        calculation: u8, value: u32
-    ) -> u8;
-    fn osturdam_store_record(
-        kept: &mut [u16; KEPT], block: *const u8, lent: usize, area: &mut [u8; AREA], counts: &mut [u8; 32],
-        file: u8, event: u8, given: *const u16, many: usize
-    ) -> u8;
-}
-
+#[rustfmt::skip] // as the header has them: what is lent, then the event
 extern "C" {
+    fn osturdam_layout() -> u16;
+    fn osturdam_valid(config: &[u8; CONFIG]) -> u8;
     fn osturdam_fresh(
-        kept: &mut [u16; KEPT],
-        words: &mut [u16; 256],
-        results: &mut [u32; 128],
-        fixed: &mut [u8; 528],
-        block: *mut u8,
-        lent: usize,
-        counts: &mut [u8; 32],
-    );
+        unit: &mut [u8; UNIT], block: *mut u8, length: u64, config: &[u8; CONFIG]);
+    fn osturdam_stretch(
+        unit: &mut [u8; UNIT], block: *mut u8, length: u64, records: *mut u8, room: u64,
+        buffer: *mut u8, buffer_room: u64, chars: *const u8, count: u64, turned: &mut [u8; 4]) -> u8;
+    fn osturdam_elapsed(
+        unit: &mut [u8; UNIT], block: *const u8, length: u64, records: *const u8, room: u64,
+        ms: u32) -> u8;
+    fn osturdam_set_word(
+        unit: &mut [u8; UNIT], block: *const u8, length: u64, records: *const u8, room: u64,
+        input: u8, word: u16) -> u8;
+    fn osturdam_pulses(
+        unit: &mut [u8; UNIT], block: *const u8, length: u64, records: *const u8, room: u64,
+        input: u8, count: u16) -> u8;
+    fn osturdam_set_value(
+        unit: &mut [u8; UNIT], block: *const u8, length: u64, records: *const u8, room: u64,
+        calculation: u8, value: u32) -> u8;
+    fn osturdam_store_record(
+        unit: &mut [u8; UNIT], block: *const u8, length: u64, records: *mut u8, room: u64,
+        file: u8, event: u8, values: *const u16, many: u64) -> u8;
 }
 
-/// Calls an entry with the configuration's parts; what it is lent are live references, and lengths are those of the slices.
-macro_rules! call {
-    ($entry:ident, $c:expr $(, $part:expr)*) => {
-        unsafe {
-            $entry(
-                $c.unit, $c.length, &$c.inputs, &$c.outputs, &$c.calculations, &$c.files, &$c.values $(, $part)*
-            )
-        }
-    };
+/// The number of the library's layout.
+pub fn layout() -> u16 {
+    unsafe { osturdam_layout() }
+}
+
+/// Whether the library takes a configuration for a valid one.
+pub fn valid(config: &[u8; CONFIG]) -> u8 {
+    unsafe { osturdam_valid(config) }
+}
+
+/// The word whose low character stands at this place.
+fn word_at(chars: &[u8], at: usize) -> u16 {
+    u16::from_le_bytes([chars[at], chars[at + 1]])
 }
 
 /// A pointer to a part as the header asks for it: null is allowed where the length is 0, so it is what such a call gets.
@@ -131,133 +124,167 @@ impl Turned {
     }
 }
 
+impl Equipment {
+    /// Nothing is equipped.
+    pub fn none() -> Equipment {
+        Equipment {
+            unit: 0,
+            length: 0,
+            inputs: [0; INPUTS],
+            outputs: [0; INPUTS],
+            calculations: [0; INPUTS],
+            files: [0; FILES],
+            values: [0; FILES],
+        }
+    }
+
+    /// The configuration's characters.
+    pub fn chars(&self) -> [u8; CONFIG] {
+        let mut made = [0; CONFIG];
+        let mut lay = |at: usize, part: &[u8]| {
+            let at = at - header::AT_NUMBER;
+            made[at..at + part.len()].copy_from_slice(part)
+        };
+        lay(header::AT_NUMBER, &self.unit.to_le_bytes());
+        lay(header::AT_LENGTH, &self.length.to_le_bytes());
+        lay(header::AT_INPUTS, &self.inputs);
+        lay(header::AT_OUTPUTS, &self.outputs);
+        lay(header::AT_CALCULATIONS, &self.calculations);
+        lay(header::AT_FILES, &self.files);
+        lay(header::AT_VALUES, &self.values);
+        made
+    }
+}
+
+impl Memory {
+    /// Memory that holds this character all over.
+    pub fn filled(with: u8) -> Memory {
+        Memory {
+            chars: [with; UNIT],
+        }
+    }
+
+    /// Writes characters from a place on.
+    pub fn lay(&mut self, at: usize, part: &[u8]) {
+        self.chars[at..at + part.len()].copy_from_slice(part);
+    }
+
+    /// The number of the layout that the memory says it has.
+    pub fn layout(&self) -> u16 {
+        word_at(&self.chars, header::AT_LAYOUT)
+    }
+
+    pub fn put_layout(&mut self, number: u16) {
+        self.lay(header::AT_LAYOUT, &number.to_le_bytes());
+    }
+
+    /// One of the kept numbers.
+    pub fn kept(&self, which: usize) -> u16 {
+        word_at(&self.chars, header::AT_NUMBERS + 2 * which)
+    }
+
+    pub fn put_kept(&mut self, which: usize, number: u16) {
+        self.lay(header::AT_NUMBERS + 2 * which, &number.to_le_bytes());
+    }
+
+    /// All of the kept numbers, in the order of `enum osturdam_kept`.
+    pub fn all_kept(&self) -> [u16; KEPT] {
+        std::array::from_fn(|which| self.kept(which))
+    }
+
+    pub fn put_all_kept(&mut self, numbers: &[u16; KEPT]) {
+        (0..KEPT).for_each(|which| self.put_kept(which, numbers[which]));
+    }
+
+    pub fn word(&self, input: u8) -> u16 {
+        word_at(&self.chars, header::AT_WORDS + 2 * usize::from(input))
+    }
+
+    /// How many records a file holds.
+    pub fn count(&self, file: usize) -> u8 {
+        self.chars[header::AT_COUNTS + file]
+    }
+}
+
+/// Calls an entry with what is lent: live references, with the lengths of parts of them.
+macro_rules! call {
+    ($entry:ident, $u:ident, $lent:expr, $records:expr $(, $part:expr)*) => {{
+        let (block, records) = (place_mut(&mut $u.block[..$lent.block]), $records);
+        let (m, length, room) = (&mut $u.memory, $lent.block as u64, $lent.records as u64);
+        unsafe { $entry(&mut m.chars, block, length, records, room $(, $part)*) }
+    }};
+}
+
 impl Unit {
     /// Memory that holds this character all over.
     pub fn filled(with: u8) -> Box<Unit> {
         Box::new(Unit {
-            kept: [u16::from_le_bytes([with, with]); KEPT],
-            words: [u16::from_le_bytes([with, with]); 256],
-            results: [u32::from_le_bytes([with; 4]); 128],
-            fixed: [with; 528],
+            memory: Memory::filled(with),
             block: [with; BLOCK],
-            area: [with; AREA],
-            counts: [with; 32],
+            records: [with; RECORDS],
         })
     }
 
-    pub fn fresh(&mut self, lent: usize) {
-        let block = place_mut(&mut self.block[..lent]);
-        unsafe {
-            osturdam_fresh(
-                &mut self.kept,
-                &mut self.words,
-                &mut self.results,
-                &mut self.fixed,
-                block,
-                lent,
-                &mut self.counts,
-            )
+    pub fn fresh(&mut self, lent: Lent, config: &[u8; CONFIG]) {
+        let block = place_mut(&mut self.block[..lent.block]);
+        let (m, length) = (&mut self.memory, lent.block as u64);
+        unsafe { osturdam_fresh(&mut m.chars, block, length, config) }
+    }
+
+    pub fn stretch(&mut self, lent: Lent, buffer: &mut [u8], heard: &[u8]) -> Turned {
+        let mut told = [0xA5; 4];
+        let records = place_mut(&mut self.records[..lent.records]);
+        let outcome = call!(
+            osturdam_stretch,
+            self,
+            lent,
+            records,
+            place_mut(buffer),
+            buffer.len() as u64,
+            place(heard),
+            heard.len() as u64,
+            &mut told
+        );
+        Turned {
+            sent: u16::from_le_bytes([told[0], told[1]]).into(),
+            outcome,
+            action: told[2],
+            output: told[3],
         }
     }
 
-    pub fn stretch(
-        &mut self,
-        c: &Equipment,
-        lent: usize,
-        buffer: &mut [u8],
-        heard: &[u8],
-    ) -> Turned {
-        let block = place_mut(&mut self.block[..lent]);
-        call!(
-            osturdam_stretch,
-            c,
-            &mut self.kept,
-            &mut self.words,
-            &self.results,
-            &mut self.fixed,
-            block,
-            lent,
-            &mut self.area,
-            &mut self.counts,
-            place_mut(buffer),
-            buffer.len(),
-            place(heard),
-            heard.len()
-        )
+    pub fn elapsed(&mut self, lent: Lent, ms: u32) -> u8 {
+        let records = place(&self.records[..lent.records]);
+        call!(osturdam_elapsed, self, lent, records, ms)
     }
 
-    pub fn elapsed(&mut self, c: &Equipment, lent: usize, ms: u32) -> u8 {
-        let block = place(&self.block[..lent]);
-        call!(
-            osturdam_elapsed,
-            c,
-            &mut self.kept,
-            block,
-            lent,
-            &self.counts,
-            ms
-        )
+    pub fn set_word(&mut self, lent: Lent, input: u8, word: u16) -> u8 {
+        let records = place(&self.records[..lent.records]);
+        call!(osturdam_set_word, self, lent, records, input, word)
     }
 
-    pub fn set_word(&mut self, c: &Equipment, lent: usize, input: u8, word: u16) -> u8 {
-        let block = place(&self.block[..lent]);
-        call!(
-            osturdam_set_word,
-            c,
-            &self.kept,
-            &mut self.words,
-            block,
-            lent,
-            &self.counts,
-            input,
-            word
-        )
+    pub fn pulses(&mut self, lent: Lent, input: u8, count: u16) -> u8 {
+        let records = place(&self.records[..lent.records]);
+        call!(osturdam_pulses, self, lent, records, input, count)
     }
 
-    pub fn pulses(&mut self, c: &Equipment, lent: usize, input: u8, count: u16) -> u8 {
-        let block = place(&self.block[..lent]);
-        call!(
-            osturdam_pulses,
-            c,
-            &self.kept,
-            &mut self.words,
-            block,
-            lent,
-            &self.counts,
-            input,
-            count
-        )
+    pub fn set_value(&mut self, lent: Lent, calculation: u8, value: u32) -> u8 {
+        let records = place(&self.records[..lent.records]);
+        call!(osturdam_set_value, self, lent, records, calculation, value)
     }
 
-    pub fn set_value(&mut self, c: &Equipment, lent: usize, calculation: u8, value: u32) -> u8 {
-        let block = place(&self.block[..lent]);
-        call!(
-            osturdam_set_value,
-            c,
-            &self.kept,
-            &mut self.results,
-            block,
-            lent,
-            &self.counts,
-            calculation,
-            value
-        )
-    }
-
-    pub fn store(&mut self, c: &Equipment, lent: usize, file: u8, event: u8, given: &[u16]) -> u8 {
-        let block = place(&self.block[..lent]);
+    pub fn store(&mut self, lent: Lent, file: u8, event: u8, given: &[u16]) -> u8 {
+        let records = place_mut(&mut self.records[..lent.records]);
+        let (values, many) = (place(given), given.len() as u64);
         call!(
             osturdam_store_record,
-            c,
-            &mut self.kept,
-            block,
+            self,
             lent,
-            &mut self.area,
-            &mut self.counts,
+            records,
             file,
             event,
-            place(given),
-            given.len()
+            values,
+            many
         )
     }
 }

@@ -1,9 +1,10 @@
 //! Calls of one function: whole and damaged, with right and wrong data, about the state as it stands.
 
 use crate::aims::Aim;
+use crate::board::header::{self, FILES, HOLD_MS, REPLY, SILENT_MS};
 use crate::event::Event;
 use crate::frames::{damaged, Draft};
-use crate::pair::{Pair, ROOM};
+use crate::pair::{Pair, BUFFER};
 use crate::rng::Rng;
 use crate::shapes;
 use independent::Config;
@@ -57,9 +58,9 @@ fn count(rng: &mut Rng) -> u16 {
 }
 
 fn file(rng: &mut Rng, c: &Config) -> u8 {
-    let start = rng.below(32);
-    let found = (0..32)
-        .map(|i| (start + i) % 32)
+    let start = rng.below(FILES);
+    let found = (0..FILES)
+        .map(|i| (start + i) % FILES)
         .find(|&f| c.files[f].is_some());
     match found {
         Some(f) if rng.percent(90) => f as u8,
@@ -88,14 +89,16 @@ fn store(rng: &mut Rng, c: &Config) -> Event {
 
 /// Just to, just before and just past each limit of time, or any time.
 fn elapsed(rng: &mut Rng, pair: &Pair) -> u32 {
-    let k = pair.unit.kept.map(u32::from);
-    let of_day = ((k[1] * 60 + k[2]) * 60 + k[3]) * 1000 + k[4];
+    let (hold, silent) = (HOLD_MS as u32, SILENT_MS as u32);
+    let kept = |which| u32::from(pair.unit.memory.kept(which));
+    let seconds = (kept(header::HOUR) * 60 + kept(header::MINUTE)) * 60 + kept(header::SECOND);
+    let of_day = seconds * 1000 + kept(header::MS);
     let limit = match rng.below(9) {
-        0 => 5000_u32.saturating_sub(k[9]),
-        1 => 5000_u32.saturating_sub(k[14]),
-        2 => 60_000_u32.saturating_sub(k[24]),
+        0 => hold.saturating_sub(kept(header::SELECT_AGE)),
+        1 => hold.saturating_sub(kept(header::WRITE_AGE)),
+        2 => silent.saturating_sub(kept(header::SILENCE)),
         3 => 86_400_000_u32.saturating_sub(of_day),
-        4 => rng.pick(&[0, 5000, 60_000, 86_400_000, u32::MAX]),
+        4 => rng.pick(&[0, hold, silent, 86_400_000, u32::MAX]),
         5 => return rng.long(),
         _ => return rng.below(3000) as u32,
     };
@@ -228,7 +231,7 @@ fn history(rng: &mut Rng, pair: &Pair) -> u8 {
 
 /// What the line makes of a frame: most come whole, some to others, some wrong in one thing.
 fn sent(rng: &mut Rng, mut draft: Draft) -> Event {
-    let mut room = rng.between(520, ROOM);
+    let mut room = rng.between(REPLY, BUFFER);
     match rng.below(100) {
         0..3 => draft.unit ^= 1 << rng.below(11),
         3..7 => draft.unit = BROADCAST,
@@ -242,8 +245,8 @@ fn sent(rng: &mut Rng, mut draft: Draft) -> Event {
                 room,
             }
         }
-        20..22 => room = rng.pick(&[0, 1, 519, room - 520]),
-        22 => room = rng.below(520),
+        20..22 => room = rng.pick(&[0, 1, REPLY - 1, room - REPLY]),
+        22 => room = rng.below(REPLY),
         _ => {}
     }
     Event::Stretch {

@@ -1,5 +1,6 @@
 //! What happens to both units: the events of document 01, and changes of the kept state between them.
 
+use crate::board::Lent;
 use independent::{Clock, HistoryReply, Select, Write};
 use std::fmt;
 
@@ -25,7 +26,7 @@ pub enum Change {
     Fixed(usize, Vec<u8>),
     Block(usize, Vec<u8>),
     Records(usize, Vec<Vec<u8>>),
-    Lent(usize),
+    Lent(Lent),
 }
 
 /// One step of a run.
@@ -71,7 +72,11 @@ impl fmt::Display for Change {
                 let records: Vec<String> = held.iter().map(|r| hex(r)).collect();
                 write!(f, "file {file} holds {}: {}", held.len(), records.join(" "))
             }
-            Change::Lent(lent) => write!(f, "{lent} of the parameter block are lent"),
+            Change::Lent(lent) => write!(
+                f,
+                "{} of the parameter block and {} of records are lent",
+                lent.block, lent.records
+            ),
         }
     }
 }

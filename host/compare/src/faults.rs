@@ -1,9 +1,11 @@
 //! Faults planted into the proved unit's results, to show that the comparison finds each and makes its run short.
 
+use crate::board::header::{self, KEPT};
 use crate::board::{Turned, Unit};
 use crate::event::Event;
+use crate::image::record_place;
 
-type Plant = fn(&Event, &[u16; 26], &mut Unit, &mut Turned, &mut [u8]);
+type Plant = fn(&Event, &[u16; KEPT], &mut Unit, &mut Turned, &mut [u8]);
 
 /// A fault: it looks at the event, the kept numbers before it and all that the unit made of it, and spoils something.
 pub struct Fault {
@@ -14,7 +16,7 @@ pub struct Fault {
 }
 
 /// The faults, one for each kind of thing that is compared.
-pub static FAULTS: [Fault; 9] = [
+pub static FAULTS: [Fault; 11] = [
     Fault {
         name: "a select held by another is told as none",
         most: 2,
@@ -46,25 +48,36 @@ pub static FAULTS: [Fault; 9] = [
     Fault {
         name: "a select ages too little past 3,000",
         most: 2,
-        plant: |_, _, u, _, _| u.kept[9] -= u16::from(u.kept[5] == 1 && u.kept[9] > 3000),
+        plant: |_, _, u, _, _| {
+            let age = u.memory.kept(header::SELECT_AGE);
+            if usize::from(u.memory.kept(header::SELECT)) == header::HELD && age > 3000 {
+                u.memory.put_kept(header::SELECT_AGE, age - 1);
+            }
+        },
     },
     Fault {
         name: "a point changes as another master's select is refused",
         most: 2,
-        plant: |_, _, u, t, _| u.words[0xFF] ^= u16::from(t.outcome == 13),
+        plant: |_, _, u, t, _| {
+            u.memory.chars[header::AT_WORDS + 2 * 0xFF] ^= u8::from(t.outcome == 13)
+        },
     },
     Fault {
         name: "the parameter block changes as bit 7 clears",
         most: 2,
-        plant: |_, before, u, _, _| u.block[0] ^= u8::from(before[15] > u.kept[15]),
+        plant: |_, before, u, _, _| {
+            let bit = header::STATUS_CONFIGURE;
+            u.block[0] ^= u8::from(before[bit] > u.memory.kept(bit));
+        },
     },
     Fault {
         name: "the third record of a file spoils the first",
         most: 3,
         plant: |e, _, u, t, _| {
             if let Event::Store { file, .. } = e {
-                let file = usize::from(file % 32);
-                u.area[file * 1216] ^= u8::from(t.outcome == 0 && u.counts[file] == 3);
+                let file = usize::from(*file) % header::FILES;
+                u.records[record_place(file, 0)] ^=
+                    u8::from(t.outcome == 0 && u.memory.count(file) == 3);
             }
         },
     },
@@ -73,7 +86,25 @@ pub static FAULTS: [Fault; 9] = [
         most: 1,
         plant: |e, _, u, t, _| {
             if matches!(e, Event::Store { .. }) && t.outcome == 3 {
-                u.area[38_911] ^= 1;
+                u.records[header::RECORDS - 1] ^= 1;
+            }
+        },
+    },
+    Fault {
+        name: "a stored record writes behind all records",
+        most: 1,
+        plant: |e, _, u, t, _| {
+            if matches!(e, Event::Store { .. }) && t.outcome == 0 {
+                u.records[header::RECORDS] ^= 1;
+            }
+        },
+    },
+    Fault {
+        name: "an accumulator that counts changes the configuration",
+        most: 1,
+        plant: |e, _, u, t, _| {
+            if matches!(e, Event::Pulses(..)) && t.outcome == 0 {
+                u.memory.chars[header::AT_VALUES] ^= 1;
             }
         },
     },

@@ -1,7 +1,11 @@
 //! Frames of masters, and what becomes of them on the line.
 
+use crate::board::header;
 use crate::rng::Rng;
 use independent::check_word;
+
+/// A stretch far longer than any line brings.
+pub const VERY_LONG: usize = 100_000;
 
 /// A frame before it is sent.
 #[derive(Clone)]
@@ -63,7 +67,7 @@ fn burst(rng: &mut Rng, bytes: &mut [u8]) {
 
 /// A frame with one data character too many, and right in all else.
 fn long(rng: &mut Rng, draft: &Draft) -> Vec<u8> {
-    let data = rng.bytes(129);
+    let data = rng.bytes(header::FRAME - 7);
     Draft {
         data,
         ..draft.clone()
@@ -79,7 +83,18 @@ fn miscounted(rng: &mut Rng, mut bytes: Vec<u8>) -> Vec<u8> {
     checked(bytes)
 }
 
+/// Anything, or nothing but 0, of a length next to a limit or far beyond all; eight characters of 0 are a frame.
 fn noise(rng: &mut Rng) -> Vec<u8> {
-    let length = rng.pick(&[0, 0, 1, 7, 8, 9, 135, 136, 137, 600]);
-    rng.bytes(length)
+    let (longest, some) = (header::FRAME, rng.flip());
+    let around = [longest - 1, longest, longest + 1];
+    let length = match rng.below(10) {
+        0..3 => rng.pick(&around),
+        3 => rng.pick(&[600, VERY_LONG]),
+        _ => rng.pick(&[0, 1, 7, 8, 9]),
+    };
+    if some {
+        rng.bytes(length)
+    } else {
+        vec![0; length]
+    }
 }

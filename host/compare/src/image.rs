@@ -1,55 +1,20 @@
 //! The independent unit's kept state as the proved unit's memory has it, and where the two differ.
 
-use crate::board::{Equipment, Unit, KEPT};
+use crate::board::header::{self, CONFIG, FILES, INPUTS, KEPT, RECORD_SLOT, ROOM, UNIT};
+use crate::board::{Equipment, Memory, Unit};
 use independent::{Config, State};
 use std::fmt::Display;
-
-/// The characters of a file's range, and of a record's place in it.
-const FILE: usize = 1216;
-const SLOT: usize = 38;
-/// More records than these have no place; a unit that claims to hold them is out of range.
-const ROOM: usize = 32;
-
-/// The names of the kept numbers, in their order.
-pub const NAMES: [&str; KEPT] = [
-    "day",
-    "hour",
-    "minute",
-    "second",
-    "ms",
-    "hold",
-    "hold_master",
-    "hold_output",
-    "hold_close",
-    "hold_age",
-    "write",
-    "write_master",
-    "write_bias",
-    "write_ordinal",
-    "write_age",
-    "configure",
-    "error",
-    "broadcast",
-    "memory",
-    "memory_master",
-    "memory_file",
-    "memory_dump",
-    "memory_quantity",
-    "memory_more",
-    "silence",
-    "mark",
-];
 
 /// The configuration as the independent unit has it: a character that is not 0 equips.
 pub fn config_of(e: &Equipment) -> Config {
     let mut config = Config::new(e.unit);
-    config.parameter_length = e.length;
-    for n in 0..256 {
+    config.parameter_length = e.length.into();
+    for n in 0..INPUTS {
         config.inputs[n] = e.inputs[n] != 0;
         config.outputs[n] = e.outputs[n] != 0;
         config.calculations[n] = e.calculations[n] != 0;
     }
-    for f in 0..32 {
+    for f in 0..FILES {
         config.files[f] = (e.files[f] != 0).then_some(e.values[f]);
     }
     config
@@ -96,47 +61,61 @@ fn memory_numbers(state: &State) -> [u16; 6] {
 pub fn kept_of(state: &State) -> [u16; KEPT] {
     let c = state.clock;
     let mut kept = [0; KEPT];
-    kept[..5].copy_from_slice(&[c.day, c.hour.into(), c.minute.into(), c.second.into(), c.ms]);
-    kept[5..10].copy_from_slice(&hold_numbers(state));
-    kept[10..15].copy_from_slice(&write_numbers(state));
-    kept[15..18].copy_from_slice(&[state.bit7.into(), state.bit3.into(), state.bit2.into()]);
-    kept[18..24].copy_from_slice(&memory_numbers(state));
-    kept[24..].copy_from_slice(&[state.silence as u16, state.mark.into()]);
+    let mut lay =
+        |first: usize, part: &[u16]| kept[first..first + part.len()].copy_from_slice(part);
+    lay(
+        header::DAY,
+        &[c.day, c.hour.into(), c.minute.into(), c.second.into(), c.ms],
+    );
+    lay(header::SELECT, &hold_numbers(state));
+    lay(header::WRITE, &write_numbers(state));
+    let bits = [state.bit7.into(), state.bit3.into(), state.bit2.into()];
+    lay(header::STATUS_CONFIGURE, &bits);
+    lay(header::MEMORY, &memory_numbers(state));
+    lay(header::SILENCE, &[state.silence as u16, state.mark.into()]);
     kept
 }
 
-/// Writes a state's blocks of fixed length into the proved unit's memory.
-pub fn put_fixed(state: &State, unit: &mut Unit) {
-    unit.fixed[..16].copy_from_slice(&state.fixed.block_00);
-    unit.fixed[16..272].copy_from_slice(&state.fixed.block_03);
-    unit.fixed[272..].copy_from_slice(&state.fixed.block_0b);
+/// A unit's memory with this configuration and state.
+pub fn memory_of(config: &[u8; CONFIG], state: &State) -> Memory {
+    let mut made = Memory::filled(0);
+    made.put_all_kept(&kept_of(state));
+    made.put_layout(header::LAYOUT as u16);
+    made.lay(header::AT_NUMBER, config);
+    made.lay(
+        header::AT_WORDS,
+        state.words.map(u16::to_le_bytes).as_flattened(),
+    );
+    made.lay(
+        header::AT_RESULTS,
+        state.values.map(u32::to_le_bytes).as_flattened(),
+    );
+    made.lay(header::AT_00, &state.fixed.block_00);
+    made.lay(header::AT_03, &state.fixed.block_03);
+    made.lay(header::AT_0B, &state.fixed.block_0b);
+    for (file, held) in state.files.iter().enumerate() {
+        made.lay(header::AT_COUNTS + file, &[held.len() as u8]);
+    }
+    made
+}
+
+/// Where a record's characters start. More records than `ROOM` have no place; a unit that claims to hold them is out of range.
+pub fn record_place(file: usize, record: usize) -> usize {
+    (file * ROOM + record) * RECORD_SLOT
 }
 
 /// Writes a file's records into the proved unit's memory.
 pub fn put_file(state: &State, unit: &mut Unit, file: usize) {
-    let held = &state.files[file];
-    unit.counts[file] = held.len() as u8;
-    for (i, record) in held.iter().take(ROOM).enumerate() {
-        let at = file * FILE + i * SLOT;
-        unit.area[at..at + record.len()].copy_from_slice(record);
-    }
-}
-
-/// Writes a whole state into the proved unit's memory.
-pub fn put_state(state: &State, unit: &mut Unit) {
-    unit.kept = kept_of(state);
-    unit.words = state.words;
-    unit.results = state.values;
-    put_fixed(state, unit);
-    for file in 0..32 {
-        put_file(state, unit, file);
+    for (i, record) in state.files[file].iter().take(ROOM).enumerate() {
+        let at = record_place(file, i);
+        unit.records[at..at + record.len()].copy_from_slice(record);
     }
 }
 
 /// Whether the record stands in its place.
 fn stands(unit: &Unit, file: usize, i: usize, record: &[u8]) -> bool {
-    let at = file * FILE + i * SLOT;
-    unit.area[at..at + record.len()] == *record
+    let at = record_place(file, i);
+    unit.records[at..at + record.len()] == *record
 }
 
 /// The first place in which two parts differ.
@@ -151,34 +130,47 @@ fn first<T: PartialEq + Display>(name: &str, proved: &[T], independent: &[T]) ->
     ))
 }
 
-/// The first kept number, point, character or record in which the two differ.
-pub fn difference(state: &State, params: &[u8], unit: &Unit) -> Option<String> {
-    let kept = kept_of(state);
-    if let Some(i) = (0..KEPT).find(|&i| kept[i] != unit.kept[i]) {
-        return Some(format!(
-            "kept {}: proved {}, independent {}",
-            NAMES[i], unit.kept[i], kept[i]
-        ));
-    }
-    let fixed = &state.fixed;
-    first("word", &unit.words, &state.words)
-        .or_else(|| first("calculation value", &unit.results, &state.values))
-        .or_else(|| first("block 00 at", &unit.fixed[..16], &fixed.block_00))
-        .or_else(|| first("block 03 at", &unit.fixed[16..272], &fixed.block_03))
-        .or_else(|| first("block 0B at", &unit.fixed[272..], &fixed.block_0b))
-        .or_else(|| first("parameter block at", &unit.block, params))
-        .or_else(|| files_difference(state, unit))
+/// The region of a unit's memory that a place lies in, and the place from its start on.
+fn region(place: usize) -> (&'static str, usize) {
+    let before = header::REGIONS.iter().rev().find(|x| x.0 <= place);
+    let (start, name) = before.expect("a region starts at 0");
+    (name, place - start)
 }
 
-fn files_difference(state: &State, unit: &Unit) -> Option<String> {
+/// The first kept number or character in which two memories differ.
+fn memory_difference(proved: &Memory, independent: &Memory) -> Option<String> {
+    let told = |name, ours: u16, other: u16| format!("{name}: proved {ours}, independent {other}");
+    let (ours, others) = (proved.all_kept(), independent.all_kept());
+    if let Some(i) = (0..KEPT).find(|&i| ours[i] != others[i]) {
+        return Some(told(
+            format!("kept {}", header::KEPT_NAMES[i]),
+            ours[i],
+            others[i],
+        ));
+    }
+    let i = (0..UNIT).find(|&i| proved.chars[i] != independent.chars[i])?;
+    let (name, at) = region(i);
+    let (ours, other) = (proved.chars[i].into(), independent.chars[i].into());
+    Some(told(format!("{name} at {at}"), ours, other))
+}
+
+/// The first kept number, character or record in which the two differ.
+pub fn difference(
+    config: &[u8; CONFIG],
+    state: &State,
+    params: &[u8],
+    unit: &Unit,
+) -> Option<String> {
+    let memory = memory_of(config, state);
+    (memory != unit.memory)
+        .then(|| memory_difference(&unit.memory, &memory))
+        .flatten()
+        .or_else(|| first("parameter block at", &unit.block, params))
+        .or_else(|| records_difference(state, unit))
+}
+
+fn records_difference(state: &State, unit: &Unit) -> Option<String> {
     for (file, held) in state.files.iter().enumerate() {
-        if usize::from(unit.counts[file]) != held.len() {
-            return Some(format!(
-                "file {file}: proved holds {}, independent {}",
-                unit.counts[file],
-                held.len()
-            ));
-        }
         let differs = |(i, record): (usize, &Vec<u8>)| !stands(unit, file, i, record);
         if let Some(i) = held.iter().take(ROOM).enumerate().position(differs) {
             return Some(format!("file {file}: record {i} differs"));

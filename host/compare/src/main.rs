@@ -35,8 +35,8 @@ const RUNS: u64 = 0;
 const RAW: u64 = 100;
 const BROKEN: u64 = 200;
 /// Calls with raw patterns, and how many of them share a unit.
-const RAW_CALLS: usize = 10_000;
-const RAW_SHARE: usize = 50;
+const RAW_CALLS: usize = 12_000;
+const RAW_SHARE: usize = 60;
 /// A planted fault is found in as many runs.
 const FIND_WITHIN: u64 = 2_000;
 
@@ -96,6 +96,9 @@ fn enough(
 
 fn compare(s: &Settings) -> Result<(), String> {
     let mut tally = Tally::new();
+    if usize::from(board::layout()) != board::header::LAYOUT {
+        return Err("the library has another layout than the header".to_string());
+    }
     enough(s, RUNS, None, &mut tally, |t| t.all() >= s.events)?;
     let runs = tally.all();
     for (part, (aim, ..)) in (1..).zip(AIMS) {

@@ -1,22 +1,23 @@
 //! Both units side by side: each event goes to both, and everything is compared.
 
-use crate::board::{Equipment, Turned, Unit};
+use crate::board::header::{self, CONFIG, KEPT, REPLY};
+use crate::board::{valid, Equipment, Lent, Turned, Unit};
 use crate::event::{hex, Change, Event, Hold};
 use crate::faults::Fault;
-use crate::image::{config_of, difference, kept_of, put_file, put_fixed, put_state};
+use crate::image::{config_of, difference, memory_of, put_file};
 use crate::scene::Scene;
 use independent::{Action, Answer, Config, State};
 
 /// The longest buffer lent.
-pub const ROOM: usize = 600;
+pub const BUFFER: usize = REPLY + 80;
 
 /// What stands in a buffer before an event, no two neighbours alike.
-const PATTERN: [u8; ROOM] = pattern();
+const PATTERN: [u8; BUFFER] = pattern();
 
-const fn pattern() -> [u8; ROOM] {
-    let mut made = [0; ROOM];
+const fn pattern() -> [u8; BUFFER] {
+    let mut made = [0; BUFFER];
     let mut i = 0;
-    while i < ROOM {
+    while i < BUFFER {
         made[i] = (i * 7 + 3) as u8;
         i += 1;
     }
@@ -27,16 +28,18 @@ const fn pattern() -> [u8; ROOM] {
 pub struct Pair {
     pub config: Config,
     pub state: State,
-    pub lent: usize,
+    pub lent: Lent,
     pub equipment: Equipment,
     pub unit: Box<Unit>,
     /// The proved unit's kept numbers before the latest event.
-    pub before: [u16; 26],
+    pub before: [u16; KEPT],
+    /// The configuration as characters: no event changes one.
+    chars: [u8; CONFIG],
     params: Vec<u8>,
-    /// The characters of records as the latest event left them, those of no record too.
-    area: Vec<u8>,
-    reply: [u8; ROOM],
-    other: [u8; ROOM],
+    /// The characters of records as the latest event left them, those of no record and those behind all records too.
+    records: Vec<u8>,
+    reply: [u8; BUFFER],
+    other: [u8; BUFFER],
     sent: usize,
     fault: Option<&'static Fault>,
 }
@@ -45,24 +48,31 @@ impl Pair {
     /// Both units as a scene has them; a fresh unit is made by the proved entry out of any memory.
     pub fn new(scene: &Scene, fault: Option<&'static Fault>) -> Result<Pair, String> {
         let mut unit = Unit::filled(scene.fill);
+        let chars = scene.equipment.chars();
+        let config = config_of(&scene.equipment);
+        if valid(&chars) != u8::from(config.valid()) {
+            return Err(format!("at the start: valid is {}", valid(&chars)));
+        }
         unit.block.copy_from_slice(&scene.params);
         if scene.fresh {
-            unit.block[..scene.lent].fill(scene.fill);
-            unit.fresh(scene.lent);
+            unit.block[..scene.lent.block].fill(scene.fill);
+            unit.fresh(scene.lent, &chars);
         } else {
-            put_state(&scene.state, &mut unit);
+            unit.memory = memory_of(&chars, &scene.state);
+            (0..header::FILES).for_each(|file| put_file(&scene.state, &mut unit, file));
         }
-        if let Some(found) = difference(&scene.state, &scene.params, &unit) {
+        if let Some(found) = difference(&chars, &scene.state, &scene.params, &unit) {
             return Err(format!("at the start: {found}"));
         }
         Ok(Pair {
-            config: config_of(&scene.equipment),
+            config,
             state: scene.state.clone(),
             lent: scene.lent,
             equipment: scene.equipment.clone(),
-            before: unit.kept,
+            before: unit.memory.all_kept(),
+            chars,
             params: scene.params.clone(),
-            area: unit.area.to_vec(),
+            records: unit.records.to_vec(),
             unit,
             reply: PATTERN,
             other: PATTERN,
@@ -85,9 +95,8 @@ impl Pair {
         let sent = self.sent;
         self.reply[..sent].copy_from_slice(&PATTERN[..sent]);
         self.other[..sent].copy_from_slice(&PATTERN[..sent]);
-        self.before = self.unit.kept;
-        let buffer = &mut self.reply;
-        let mut turned = proved(&mut self.unit, &self.equipment, self.lent, buffer, event);
+        self.before = self.unit.memory.all_kept();
+        let mut turned = proved(&mut self.unit, self.lent, &mut self.reply, event);
         if let Some(fault) = self.fault {
             (fault.plant)(
                 event,
@@ -106,8 +115,10 @@ impl Pair {
     }
 
     fn independent(&mut self, event: &Event) -> Answer {
-        let (c, s, params) = (&self.config, &mut self.state, &mut self.params[..self.lent]);
+        let params = &mut self.params[..self.lent.block];
+        let (c, s) = (&self.config, &mut self.state);
         let outcome = match event {
+            event if self.lent.records < header::RECORDS => too_few_records(event),
             Event::Stretch { bytes, room } => {
                 return independent::stretch(c, s, params, &mut self.other[..*room], bytes)
             }
@@ -162,12 +173,12 @@ impl Pair {
         if self.reply[self.sent..] != PATTERN[self.sent..] {
             return Some("the buffer behind the reply was written".to_string());
         }
-        difference(&self.state, &self.params, &self.unit)
-            .or_else(|| self.area_differs(event, answer.outcome))
+        difference(&self.chars, &self.state, &self.params, &self.unit)
+            .or_else(|| self.records_differ(event, answer.outcome))
     }
 
-    /// Only a record stored or released may change characters of the area, those of no record too.
-    fn area_differs(&mut self, event: &Event, outcome: u8) -> Option<String> {
+    /// Only a record stored or released may change characters of records, those of no record too; nothing may those behind all records.
+    fn records_differ(&mut self, event: &Event, outcome: u8) -> Option<String> {
         let moves = match event {
             Event::Stretch { bytes, .. } => {
                 outcome == 0 && bytes[2] == 0x04 && bytes[3] & 0x40 != 0
@@ -175,12 +186,11 @@ impl Pair {
             Event::Store { .. } => outcome == 0,
             _ => return None,
         };
+        let (was, is) = (&mut self.records, &self.unit.records);
         if moves {
-            self.area.copy_from_slice(&self.unit.area);
-            return None;
+            was[..header::RECORDS].copy_from_slice(&is[..header::RECORDS]);
         }
-        let same = same_area(&self.area, &self.unit.area);
-        (!same).then(|| "a character of the record area changed".to_string())
+        (!same(was, is)).then(|| "a character of no record changed".to_string())
     }
 
     /// Changes the kept state of both.
@@ -211,54 +221,54 @@ impl Pair {
             Change::Records(file, held) => {
                 s.files[*file] = held.clone();
                 put_file(s, u, *file);
-                self.area.copy_from_slice(&u.area);
+                self.records.copy_from_slice(&u.records);
             }
             Change::Lent(lent) => self.lent = *lent,
         }
-        u.kept = kept_of(s);
-        u.words = s.words;
-        u.results = s.values;
+        u.memory = memory_of(&self.chars, s);
         u.block.copy_from_slice(&self.params);
-        put_fixed(s, u);
+    }
+}
+
+/// With too few characters of records no event is taken, and a buffer that is too short is told first.
+fn too_few_records(event: &Event) -> u8 {
+    match event {
+        Event::Stretch { room, .. } if *room < REPLY => header::BUFFER_SHORT as u8,
+        _ => header::NOT_CONFIGURED as u8,
     }
 }
 
 /// Hands an event to the proved unit alone; a stretch is lent the front of the buffer.
-pub fn proved(
-    u: &mut Unit,
-    c: &Equipment,
-    lent: usize,
-    buffer: &mut [u8],
-    event: &Event,
-) -> Turned {
+pub fn proved(u: &mut Unit, lent: Lent, buffer: &mut [u8], event: &Event) -> Turned {
     Turned::silent(match event {
-        Event::Stretch { bytes, room } => return u.stretch(c, lent, &mut buffer[..*room], bytes),
-        Event::Elapsed(ms) => u.elapsed(c, lent, *ms),
-        Event::Word(number, word) => u.set_word(c, lent, *number, *word),
-        Event::Pulses(number, count) => u.pulses(c, lent, *number, *count),
-        Event::Value(number, value) => u.set_value(c, lent, *number, *value),
+        Event::Stretch { bytes, room } => return u.stretch(lent, &mut buffer[..*room], bytes),
+        Event::Elapsed(ms) => u.elapsed(lent, *ms),
+        Event::Word(number, word) => u.set_word(lent, *number, *word),
+        Event::Pulses(number, count) => u.pulses(lent, *number, *count),
+        Event::Value(number, value) => u.set_value(lent, *number, *value),
         Event::Store {
             file,
             event,
             values,
-        } => u.store(c, lent, *file, *event, values),
+        } => u.store(lent, *file, *event, values),
         Event::Change(_) => unreachable!("a change is no event of a unit"),
     })
 }
 
 /// Writes into whichever of the three blocks each place falls.
 fn put_in_fixed(state: &mut State, at: usize, bytes: &[u8]) {
-    for (i, &byte) in (at..).zip(bytes) {
-        match i {
-            0..16 => state.fixed.block_00[i] = byte,
-            16..272 => state.fixed.block_03[i - 16] = byte,
-            _ => state.fixed.block_0b[i - 272] = byte,
+    let fixed = &mut state.fixed;
+    for (place, &byte) in (header::AT_FIXED + at..).zip(bytes) {
+        match place {
+            header::AT_00..header::AT_03 => fixed.block_00[place - header::AT_00] = byte,
+            header::AT_03..header::AT_0B => fixed.block_03[place - header::AT_03] = byte,
+            _ => fixed.block_0b[place - header::AT_0B] = byte,
         }
     }
 }
 
 /// Whether all is alike: by eights and without a way out early, so it is quick under an emulator too.
-fn same_area(a: &[u8], b: &[u8]) -> bool {
+fn same(a: &[u8], b: &[u8]) -> bool {
     let eights = |part: &[u8]| u64::from_le_bytes(part.try_into().expect("eight characters"));
     let differ = |(x, y)| eights(x) ^ eights(y);
     a.chunks_exact(8)

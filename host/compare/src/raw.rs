@@ -1,17 +1,19 @@
-//! Kept numbers that no unit writes and the independent unit's types cannot hold: 17, and not a character changed.
+//! Memory that the independent unit's types cannot hold: kept numbers that no unit writes, or another layout. 17, and not a character
+//! changed.
 
 use crate::aims::AIMS;
-use crate::board::Turned;
+use crate::board::header::*;
+use crate::board::{layout, Memory, Turned};
 use crate::calls::call;
 use crate::event::Event;
-use crate::pair::{proved, Pair, ROOM};
+use crate::pair::{proved, Pair, BUFFER};
 use crate::rng::Rng;
 use crate::scene::Scene;
 
-/// Places of `struct osturdam_kept` by what they may hold.
-const CHARACTERS: [usize; 3] = [1, 2, 3];
-const BITS: [usize; 3] = [15, 16, 17];
-/// A tag's place, its highest value, and its part's places: characters, bits, and those that stay 0 under each tag.
+/// Kept numbers by what they may hold.
+const CHARACTERS: [usize; 3] = [HOUR, MINUTE, SECOND];
+const BITS: [usize; 3] = [STATUS_CONFIGURE, STATUS_ERROR, STATUS_BROADCAST];
+/// A tag, its highest value, and its part's numbers: characters, bits, and those that stay 0 under each tag.
 type Part = (
     usize,
     u16,
@@ -19,21 +21,22 @@ type Part = (
     &'static [usize],
     &'static [&'static [usize]],
 );
+#[rustfmt::skip]
 const PARTS: [Part; 4] = [
-    (5, 2, &[6, 7], &[8], &[&[6, 7, 8, 9], &[], &[7, 8, 9]]),
-    (10, 1, &[11, 13], &[], &[&[11, 12, 13, 14], &[]]),
-    (
-        18,
-        1,
-        &[19, 20, 22],
-        &[21, 23],
-        &[&[19, 20, 21, 22, 23], &[]],
-    ),
-    (25, 2, &[], &[], &[&[], &[], &[]]),
+    (SELECT, 2, &[SELECT_MASTER, SELECT_OUTPUT], &[SELECT_CLOSE],
+     &[&[SELECT_MASTER, SELECT_OUTPUT, SELECT_CLOSE, SELECT_AGE], &[], &[SELECT_OUTPUT, SELECT_CLOSE, SELECT_AGE]]),
+    (WRITE, 1, &[WRITE_MASTER, WRITE_ORDINAL], &[],
+     &[&[WRITE_MASTER, WRITE_BIAS, WRITE_ORDINAL, WRITE_AGE], &[]]),
+    (MEMORY, 1, &[MEMORY_MASTER, MEMORY_FILE, MEMORY_QUANTITY], &[MEMORY_DUMP, MEMORY_MORE],
+     &[&[MEMORY_MASTER, MEMORY_FILE, MEMORY_DUMP, MEMORY_QUANTITY, MEMORY_MORE], &[]]),
+    (MARK, 2, &[], &[], &[&[], &[], &[]]),
 ];
 
-/// Puts one number into the memory that no unit writes there.
-fn spoil(rng: &mut Rng, kept: &mut [u16; 26]) {
+/// Of so many calls one is of another layout.
+const LAYOUT_ONE_IN: usize = 6;
+
+/// Puts one number among the kept ones that no unit writes there.
+fn spoil(rng: &mut Rng, kept: &mut [u16; KEPT]) {
     let (tag, highest, characters, bits, unused) = rng.pick(&PARTS);
     let unused = unused[usize::from(kept[tag])];
     let held = kept[tag] == 1;
@@ -49,26 +52,49 @@ fn spoil(rng: &mut Rng, kept: &mut [u16; 26]) {
     }
 }
 
+/// The number of another layout.
+fn other_layout(rng: &mut Rng) -> u16 {
+    let (own, any) = (layout(), rng.word());
+    let other = rng.pick(&[0, own + 1, own.swap_bytes(), 0xFFFF, any]);
+    if other == own {
+        !own
+    } else {
+        other
+    }
+}
+
+/// The memory spoilt in one thing.
+fn spoilt(rng: &mut Rng, memory: &Memory, call: usize) -> Memory {
+    let mut made = memory.clone();
+    if call % LAYOUT_ONE_IN == 0 {
+        made.put_layout(other_layout(rng));
+    } else {
+        let mut kept = memory.all_kept();
+        spoil(rng, &mut kept);
+        made.put_all_kept(&kept);
+    }
+    made
+}
+
 /// Some calls on one unit, each with a number of its own spoilt.
 pub fn run(mut rng: Rng, calls: usize) -> Result<(), String> {
     let pair = Pair::new(&Scene::random(&mut rng), None)?;
     let mut unit = pair.unit.clone();
-    for _ in 0..calls {
+    for number in 0..calls {
         let aim = rng.pick(&AIMS).0;
         let event = call(&mut rng, &pair, aim);
-        spoil(&mut rng, &mut unit.kept);
+        unit.memory = spoilt(&mut rng, &pair.unit.memory, number);
         let before = unit.clone();
-        let mut buffer = [0xA5; ROOM];
-        let short = matches!(&event, Event::Stretch { room, .. } if *room < 520);
-        let told = proved(&mut unit, &pair.equipment, pair.lent, &mut buffer, &event);
-        let untouched = *unit == *before && buffer == [0xA5; ROOM];
+        let mut buffer = [0xA5; BUFFER];
+        let short = matches!(&event, Event::Stretch { room, .. } if *room < REPLY);
+        let told = proved(&mut unit, pair.lent, &mut buffer, &event);
+        let untouched = *unit == *before && buffer == [0xA5; BUFFER];
         if told != Turned::silent(if short { 18 } else { 17 }) || !untouched {
-            let kept = before.kept;
+            let (number, kept) = (before.memory.layout(), before.memory.all_kept());
             return Err(format!(
-                "kept {kept:?}, {event}: {told:?}, untouched {untouched}"
+                "layout {number}, kept {kept:?}, {event}: {told:?}, untouched {untouched}"
             ));
         }
-        unit.kept = pair.unit.kept;
     }
     Ok(())
 }

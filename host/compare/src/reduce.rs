@@ -1,5 +1,6 @@
 //! Makes a failing run short: events are left out, and what the start holds, as long as the two units still differ.
 
+use crate::board::header::{self, FILES, INPUTS};
 use crate::board::BLOCK;
 use crate::event::Event;
 use crate::faults::Fault;
@@ -66,11 +67,11 @@ fn simpler_start(failure: &mut Failure, fault: Option<&'static Fault>) {
     for simpler in SIMPLER {
         try_start(failure, fault, simpler);
     }
-    for file in 0..32 {
+    for file in 0..FILES {
         try_start(failure, fault, |s| s.state.files[file].clear());
         try_start(failure, fault, |s| s.equipment.files[file] = 0);
     }
-    for at in (0..256).step_by(16) {
+    for at in (0..INPUTS).step_by(16) {
         try_start(failure, fault, |s| s.equipment.inputs[at..at + 16].fill(0));
         try_start(failure, fault, |s| s.equipment.outputs[at..at + 16].fill(0));
         try_start(failure, fault, |s| {
@@ -90,14 +91,15 @@ fn try_start(failure: &mut Failure, fault: Option<&'static Fault>, simpler: impl
 }
 
 /// Ways to make a start simpler; the first makes all of it so.
-const SIMPLER: [fn(&mut Scene); 12] = [
+const SIMPLER: [fn(&mut Scene); 13] = [
     |s| {
         s.state = State::fresh();
         s.params = vec![0; BLOCK];
         s.fresh = true;
     },
     |s| s.params = vec![0; BLOCK],
-    |s| (s.lent, s.equipment.length) = (0, 0),
+    |s| (s.lent.block, s.equipment.length) = (0, 0),
+    |s| s.lent.records = header::RECORDS,
     |s| s.state.words = [0; 256],
     |s| s.state.values = [0; 128],
     |s| s.state.fixed = FixedArea::EMPTY,

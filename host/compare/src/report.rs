@@ -1,9 +1,10 @@
 //! A failing run in words, to be read and run again.
 
+use crate::board::header::{FILES, INPUTS, KEPT_NAMES};
 use crate::board::Equipment;
 use crate::event::hex;
 use crate::faults::Fault;
-use crate::image::{kept_of, NAMES};
+use crate::image::kept_of;
 use crate::reduce::fails;
 use crate::runs::Failure;
 use crate::scene::Scene;
@@ -22,7 +23,7 @@ pub fn print(failure: &Failure, fault: Option<&'static Fault>) {
 }
 
 fn print_equipment(e: &Equipment) {
-    let files: Vec<String> = (0..32)
+    let files: Vec<String> = (0..FILES)
         .filter(|&f| e.files[f] != 0)
         .map(|f| format!("{f} of {}", e.values[f]))
         .collect();
@@ -48,11 +49,11 @@ fn listed(items: &[String]) -> String {
 }
 
 /// Equipped numbers as runs from one to another.
-fn numbers(table: &[u8; 256]) -> String {
-    let equipped = |n: usize| n < 256 && table[n] != 0;
-    let firsts = (0..256).filter(|&n| equipped(n) && (n == 0 || !equipped(n - 1)));
+fn numbers(table: &[u8; INPUTS]) -> String {
+    let equipped = |n: usize| n < INPUTS && table[n] != 0;
+    let firsts = (0..INPUTS).filter(|&n| equipped(n) && (n == 0 || !equipped(n - 1)));
     let runs = firsts.map(|first| {
-        let last = (first..256)
+        let last = (first..INPUTS)
             .take_while(|&n| equipped(n))
             .last()
             .unwrap_or(first);
@@ -63,8 +64,8 @@ fn numbers(table: &[u8; 256]) -> String {
 
 fn print_start(scene: &Scene) {
     println!(
-        "  {} of the block lent; memory filled with {:02X}",
-        scene.lent, scene.fill
+        "  {} of the block and {} of records lent; memory filled with {:02X}",
+        scene.lent.block, scene.lent.records, scene.fill
     );
     if scene.fresh {
         return println!("  from a fresh unit:");
@@ -72,7 +73,7 @@ fn print_start(scene: &Scene) {
     let (kept, fresh) = (kept_of(&scene.state), kept_of(&State::fresh()));
     let kept = (0..kept.len())
         .filter(|&i| kept[i] != fresh[i])
-        .map(|i| format!("{} {}", NAMES[i], kept[i]));
+        .map(|i| format!("{} {}", KEPT_NAMES[i], kept[i]));
     println!(
         "  from a unit that is fresh but for: {}",
         listed(&kept.collect::<Vec<_>>())
@@ -96,7 +97,10 @@ fn print_areas(s: &State, block: &[u8]) {
     {
         println!("  {name}: {}", hex(part));
     }
-    for (file, held) in (0..32).zip(&s.files).filter(|(_, held)| !held.is_empty()) {
+    for (file, held) in (0..FILES)
+        .zip(&s.files)
+        .filter(|(_, held)| !held.is_empty())
+    {
         let records: Vec<String> = held.iter().map(|r| hex(r)).collect();
         println!("  file {file}: {}", records.join(" "));
     }

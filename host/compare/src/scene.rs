@@ -1,6 +1,7 @@
 //! Where a run starts: a random configuration, and a kept state of every shape that fits it.
 
-use crate::board::{Equipment, BLOCK};
+use crate::board::header::{self, CALCULATIONS, FILES, INPUTS};
+use crate::board::{Equipment, Lent, BLOCK, RECORDS};
 use crate::rng::Rng;
 use crate::shapes;
 use independent::State;
@@ -11,7 +12,7 @@ pub struct Scene {
     pub equipment: Equipment,
     pub state: State,
     pub params: Vec<u8>,
-    pub lent: usize,
+    pub lent: Lent,
     /// What stands in memory that nothing was put into.
     pub fill: u8,
     /// Whether the proved unit is made by its own entry.
@@ -24,7 +25,15 @@ impl Scene {
     /// A fresh unit of a random configuration.
     pub fn fresh(rng: &mut Rng) -> Scene {
         let equipment = equipment(rng);
-        let lent = equipment.length;
+        let lent = Lent {
+            block: equipment.length.into(),
+            records: rng.pick(&[
+                header::RECORDS,
+                header::RECORDS,
+                header::RECORDS + 1,
+                RECORDS,
+            ]),
+        };
         Scene {
             equipment,
             state: State::fresh(),
@@ -71,16 +80,18 @@ pub const FAULTY: [(&str, Spoil); 8] = [
     ("calculation over 7Fh", |rng, s| {
         s.equipment.calculations[rng.between(0x80, 0xFF)] = 1
     }),
-    ("file of 0 values", |rng, s| equip_file(s, rng.below(32), 0)),
+    ("file of 0 values", |rng, s| {
+        equip_file(s, rng.below(FILES), 0)
+    }),
     ("file of over 16 values", |rng, s| {
-        equip_file(s, rng.below(32), rng.pick(&[17, 18, 128, 255]))
+        equip_file(s, rng.below(FILES), rng.pick(&[17, 18, 128, 255]))
     }),
     ("block over 512", |rng, s| {
-        s.lent = rng.pick(&[513, 514, BLOCK]);
-        s.equipment.length = s.lent;
+        s.lent.block = rng.pick(&[header::BLOCK + 1, header::BLOCK + 2, BLOCK]);
+        s.equipment.length = s.lent.block as u16;
     }),
     ("block far over 512", |rng, s| {
-        s.equipment.length = rng.pick(&[1 << 16, 1 << 32, usize::MAX])
+        s.equipment.length = rng.pick(&[0x300, 0x8000, 0xFFFF])
     }),
 ];
 
@@ -91,18 +102,15 @@ fn equip_file(scene: &mut Scene, file: usize, values: u8) {
 
 /// A valid configuration: from nothing equipped to everything.
 fn equipment(rng: &mut Rng) -> Equipment {
+    let longest = header::BLOCK as u16;
     let mut made = Equipment {
         unit: rng.pick(&[0, 1, 0x7FE, 1234]),
-        length: rng.pick(&[0, 1, 16, 100, 128, 255, 256, 511, 512, 512]),
-        inputs: [0; 256],
-        outputs: [0; 256],
-        calculations: [0; 256],
-        files: [0; 32],
-        values: [0; 32],
+        length: rng.pick(&[0, 1, 16, 100, 128, 255, 256, longest - 1, longest, longest]),
+        ..Equipment::none()
     };
     if rng.flip() {
         made.unit = rng.below(0x7FF) as u16;
-        made.length = rng.below(513);
+        made.length = rng.below(header::BLOCK + 1) as u16;
     }
     let some = share(rng);
     equip(
@@ -137,24 +145,24 @@ fn equip(rng: &mut Rng, table: &mut [u8], some: usize, may: fn(usize) -> bool) {
 }
 
 /// Often 127 or 128, as many as a reply carries and one more.
-fn equip_calculations(rng: &mut Rng, table: &mut [u8; 256]) {
+fn equip_calculations(rng: &mut Rng, table: &mut [u8; INPUTS]) {
     let some = share(rng);
-    equip(rng, &mut table[..128], some, |_| true);
+    equip(rng, &mut table[..CALCULATIONS], some, |_| true);
     if some == 100 && rng.flip() {
-        table[rng.below(128)] = 0;
+        table[rng.below(CALCULATIONS)] = 0;
     }
 }
 
 /// None, a few or all; sizes at which a dump just fits, or just does not, are common. Others have any number of values.
 fn equip_files(rng: &mut Rng, made: &mut Equipment) {
     rng.fill(&mut made.values);
-    let many = rng.pick(&[0, 1, 2, 3, 3, 4, 4, 32]);
+    let many = rng.pick(&[0, 1, 2, 3, 3, 4, 4, FILES]);
     for i in 0..many {
-        let file = if many == 32 { i } else { rng.below(32) };
+        let file = if many == FILES { i } else { rng.below(FILES) };
         made.files[file] = mark(rng);
         made.values[file] = rng.pick(&[1, 4, 5, 12, 12, 14, 16]);
         if rng.flip() {
-            made.values[file] = rng.between(1, 16) as u8;
+            made.values[file] = rng.between(1, header::VALUES) as u8;
         }
     }
 }

@@ -1,27 +1,46 @@
 //! Things worth seeing in a run, each with how it is known: a comparison that never met one has not compared it.
 
+use crate::board::header::*;
 use crate::event::Event;
+use crate::frames::VERY_LONG;
 use crate::pair::Pair;
 use independent::Answer;
 
 type Known = fn(&Event, &Pair, &Answer) -> bool;
 
-/// What must have been seen. Kept numbers are named by their places in `struct osturdam_kept`.
-pub const SEEN: [(&str, Known); 27] = [
-    ("reply of 511 data characters", |_, _, a| a.sent == 520),
+/// What must have been seen.
+pub const SEEN: [(&str, Known); 35] = [
+    ("reply of 511 data characters", |_, _, a| a.sent == REPLY),
     ("table scan of 255 words", |_, p, a| {
-        a.sent == 519 && p.reply()[2] == 0x0A
+        a.sent == REPLY - 1 && p.reply()[2] == 0x0A
     }),
     ("127 calculation values", |_, p, a| {
-        a.sent == 517 && p.reply()[2] == 0x03
+        a.sent == REPLY - 3 && p.reply()[2] == 0x03
     }),
     ("102 calculations asked for", |_, p, a| {
-        a.sent == 519 && p.reply()[2] == 0x03
+        a.sent == REPLY - 1 && p.reply()[2] == 0x03
     }),
     ("frame of 136 characters answered", |e, _, a| {
-        a.sent > 0 && heard(e).len() == 136
+        a.sent > 0 && heard(e).len() == FRAME
     }),
-    ("stretch of 137 characters", |e, _, _| heard(e).len() == 137),
+    ("stretch of 0 characters", |e, _, a| told(e, a, 0)),
+    ("stretch of 1 character", |e, _, a| told(e, a, 1)),
+    ("stretch of 7 characters", |e, _, a| told(e, a, 7)),
+    ("stretch of 8 characters", |e, _, a| told(e, a, 8)),
+    ("stretch of 137 characters", |e, _, a| told(e, a, FRAME + 1)),
+    ("stretch of 100,000 characters", |e, _, a| {
+        told(e, a, VERY_LONG)
+    }),
+    ("frame of 8 characters of 0", |e, _, a| {
+        heard(e) == [0; 8] && served(a)
+    }),
+    (
+        "buffer one too short",
+        |e, _, _| matches!(e, Event::Stretch { room, .. } if *room == REPLY - 1),
+    ),
+    ("more records lent than a unit has", |_, p, a| {
+        p.lent.records > RECORDS && a.outcome == DONE as u8
+    }),
     ("NOP with data", |_, p, a| {
         a.sent > 9 && p.reply()[2] & 0x40 != 0
     }),
@@ -40,48 +59,68 @@ pub const SEEN: [(&str, Known); 27] = [
         history(e, a).is_some_and(|c| c & 0x40 == 0)
     }),
     ("sent again without the flag, more held since", |e, p, a| {
-        history(e, a)
-            .is_some_and(|c| c & 0x40 == 0 && p.reply()[7] < p.unit.counts[usize::from(c & 0x1F)])
+        history(e, a).is_some_and(|c| {
+            c & 0x40 == 0 && p.reply()[7] < p.unit.memory.count(usize::from(c & 0x1F))
+        })
     }),
     ("records released", |e, p, a| releases(e, p, a)),
     ("records of another file released", |e, p, a| {
-        releases(e, p, a) && history(e, a).is_some_and(|c| u16::from(c & 0x1F) != p.before[20])
+        releases(e, p, a)
+            && history(e, a).is_some_and(|c| u16::from(c & 0x1F) != p.before[MEMORY_FILE])
     }),
     ("latest reply replaced by another master's", |e, p, a| {
-        acknowledges(e, a) && p.before[18] == 1 && p.before[19] != master(e)
+        acknowledges(e, a) && p.before[MEMORY] == 1 && p.before[MEMORY_MASTER] != master(e)
     }),
     ("select timed out", |_, p, _| {
-        p.before[5] == 1 && p.unit.kept[5] == 2
+        p.before[SELECT] == 1 && p.unit.memory.kept(SELECT) == 2
     }),
     ("select alive at 5,000", |e, p, _| {
-        matches!(e, Event::Elapsed(1..)) && p.unit.kept[9] == 5000
+        matches!(e, Event::Elapsed(1..)) && usize::from(p.unit.memory.kept(SELECT_AGE)) == HOLD_MS
     }),
     ("write timed out", |e, p, _| {
-        matches!(e, Event::Elapsed(_)) && p.before[10] == 1 && p.unit.kept[10] == 0
+        matches!(e, Event::Elapsed(_)) && p.before[WRITE] == 1 && p.unit.memory.kept(WRITE) == 0
     }),
     ("write dropped by its master's frame", |e, p, a| {
-        a.sent > 0 && p.before[10] == 1 && p.before[11] == master(e) && p.unit.kept[10] == 0
+        a.sent > 0
+            && p.before[WRITE] == 1
+            && p.before[WRITE_MASTER] == master(e)
+            && p.unit.memory.kept(WRITE) == 0
     }),
     ("port fallen silent", |_, p, _| {
-        p.before[25] != 1 && p.unit.kept[25] == 1
+        p.before[MARK] != 1 && p.unit.memory.kept(MARK) == 1
     }),
     ("mark carried by a reply", |_, p, a| {
-        a.sent > 0 && p.before[25] != 0 && p.unit.kept[25] == 0
+        a.sent > 0 && p.before[MARK] != 0 && p.unit.memory.kept(MARK) == 0
     }),
     ("year's end passed", |e, p, _| {
-        matches!(e, Event::Elapsed(_)) && p.unit.kept[0] < p.before[0]
+        matches!(e, Event::Elapsed(_)) && p.unit.memory.kept(DAY) < p.before[DAY]
     }),
     (
         "accumulator carried over",
-        |e, p, a| matches!(e, Event::Pulses(n, count) if a.outcome == 0 && p.unit.words[usize::from(*n)] < *count),
+        |e, p, a| matches!(e, Event::Pulses(n, count) if a.outcome == 0 && p.unit.memory.word(*n) < *count),
     ),
     ("bit 7 cleared", |_, p, _| {
-        p.before[15] == 1 && p.unit.kept[15] == 0
+        p.before[STATUS_CONFIGURE] == 1 && p.unit.memory.kept(STATUS_CONFIGURE) == 0
     }),
     ("bit 3 cleared", |_, p, _| {
-        p.before[16] == 1 && p.unit.kept[16] == 0
+        p.before[STATUS_ERROR] == 1 && p.unit.memory.kept(STATUS_ERROR) == 0
     }),
 ];
+
+/// A stretch of so many characters was judged, and no whole frame, or its frame was looked at.
+fn told(event: &Event, answer: &Answer, many: usize) -> bool {
+    let is = matches!(event, Event::Stretch { bytes, .. } if bytes.len() == many);
+    is && (answer.outcome == NOT_WHOLE as u8 || many == 8 && served(answer))
+}
+
+/// The stretch was a whole frame.
+fn served(answer: &Answer) -> bool {
+    let outcome = usize::from(answer.outcome);
+    outcome != NOT_WHOLE
+        && outcome != CHECK_WRONG
+        && outcome != NOT_CONFIGURED
+        && outcome != BUFFER_SHORT
+}
 
 fn heard(event: &Event) -> &[u8] {
     match event {
@@ -106,7 +145,7 @@ fn acknowledges(event: &Event, answer: &Answer) -> bool {
 
 fn releases(event: &Event, pair: &Pair, answer: &Answer) -> bool {
     acknowledges(event, answer)
-        && pair.before[18] == 1
-        && pair.before[19] == master(event)
-        && pair.before[22] > 0
+        && pair.before[MEMORY] == 1
+        && pair.before[MEMORY_MASTER] == master(event)
+        && pair.before[MEMORY_QUANTITY] > 0
 }

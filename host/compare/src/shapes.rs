@@ -1,5 +1,6 @@
 //! Random parts of a kept state that are in range, with the limits of each often.
 
+use crate::board::header::{self, FILES, INPUTS};
 use crate::board::{Equipment, BLOCK};
 use crate::event::Hold;
 use crate::rng::Rng;
@@ -29,8 +30,12 @@ pub fn state(rng: &mut Rng, e: &Equipment) -> State {
     rng.fill(&mut made.fixed.block_0b);
     made.fixed.block_03 = tables(rng, e);
     let full = rng.percent(4);
-    for file in (0..32).filter(|&f| e.files[f] != 0) {
-        let many = if full { 32 } else { many_records(rng, e) };
+    for file in (0..FILES).filter(|&f| e.files[f] != 0) {
+        let many = if full {
+            header::ROOM
+        } else {
+            many_records(rng, e)
+        };
         made.files[file] = records(rng, e.values[file], many);
     }
     made.history = memory(rng, e, &made);
@@ -51,15 +56,16 @@ pub fn clock(rng: &mut Rng) -> Clock {
 }
 
 fn age(rng: &mut Rng) -> u32 {
-    let any = rng.below(5001) as u32;
-    rng.pick(&[0, 4999, 5000, any])
+    let hold = header::HOLD_MS as u32;
+    let any = rng.below(header::HOLD_MS + 1) as u32;
+    rng.pick(&[0, hold - 1, hold, any])
 }
 
 pub fn hold(rng: &mut Rng, e: &Equipment) -> Hold {
     let master = master(rng, e.unit);
-    let start = rng.below(256);
-    let output = (0..256)
-        .map(|i| (start + i) % 256)
+    let start = rng.below(INPUTS);
+    let output = (0..INPUTS)
+        .map(|i| (start + i) % INPUTS)
         .find(|&n| e.outputs[n] != 0);
     match (rng.below(10), output) {
         (0..5, Some(output)) => {
@@ -78,10 +84,11 @@ pub fn hold(rng: &mut Rng, e: &Equipment) -> Hold {
 
 /// The length of a block, if the ordinal has one; what is configured may be any number.
 pub fn block_length(ordinal: u8, e: &Equipment) -> Option<usize> {
-    match ordinal {
-        0x00 => Some(16),
-        0x03 | 0x0B => Some(256),
-        0x06 => Some(e.length.min(BLOCK)),
+    match usize::from(ordinal) {
+        header::ORDINAL_00 => Some(header::LENGTH_00),
+        header::ORDINAL_03 => Some(header::LENGTH_03),
+        header::ORDINAL_0B => Some(header::LENGTH_0B),
+        header::ORDINAL_06 => Some(usize::from(e.length).min(BLOCK)),
         _ => None,
     }
 }
@@ -115,15 +122,16 @@ pub fn write(rng: &mut Rng, e: &Equipment) -> Option<Write> {
 }
 
 pub fn port(rng: &mut Rng) -> (u32, u8) {
-    let any = rng.below(60_001) as u32;
-    (rng.pick(&[0, 59_999, 60_000, any]), rng.below(3) as u8)
+    let silent = header::SILENT_MS as u32;
+    let any = rng.below(header::SILENT_MS + 1) as u32;
+    (rng.pick(&[0, silent - 1, silent, any]), rng.below(3) as u8)
 }
 
 /// As many records as a dump carries, one more, none, all, or any number.
 pub fn many_records(rng: &mut Rng, e: &Equipment) -> usize {
     let few = e.files.iter().filter(|&&f| f != 0).count() > 8;
-    let any = rng.below(33);
-    let many = rng.pick(&[0, 1, 2, 13, 14, 15, 16, 17, 18, 31, 32, any]);
+    let (room, any) = (header::ROOM, rng.below(header::ROOM + 1));
+    let many = rng.pick(&[0, 1, 2, 13, 14, 15, 16, 17, 18, room - 1, room, any]);
     if few {
         many % 4
     } else {
@@ -133,15 +141,15 @@ pub fn many_records(rng: &mut Rng, e: &Equipment) -> usize {
 
 /// Records no longer than their places, even where the configuration asks for more values than it may.
 pub fn records(rng: &mut Rng, values: u8, many: usize) -> Vec<Vec<u8>> {
-    let size = record_size(values.min(16));
+    let size = record_size(values.min(header::VALUES as u8));
     (0..many).map(|_| rng.bytes(size)).collect()
 }
 
 /// A reply that an equipped file could have given when it held no more than now.
 pub fn memory(rng: &mut Rng, e: &Equipment, state: &State) -> Option<HistoryReply> {
-    let start = rng.below(32);
+    let start = rng.below(FILES);
     let equipped = |f: &usize| e.files[*f] != 0;
-    let file = (0..32).map(|i| (start + i) % 32).find(equipped)?;
+    let file = (0..FILES).map(|i| (start + i) % FILES).find(equipped)?;
     if rng.percent(15) {
         return None;
     }

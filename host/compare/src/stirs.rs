@@ -1,6 +1,7 @@
 //! Changes of the kept state between calls that leave it in range, so that each call finds what matters to it.
 
 use crate::aims::Aim;
+use crate::board::{header, BLOCK};
 use crate::event::{Change, Hold};
 use crate::pair::Pair;
 use crate::rng::Rng;
@@ -37,11 +38,14 @@ fn change(rng: &mut Rng, pair: &Pair, part: usize) -> Vec<Change> {
         },
         5 => port(rng),
         6 => Change::Word(rng.byte(), rng.word()),
-        7 => Change::Value(rng.byte() % 128, rng.long()),
-        8 => Change::Fixed(rng.below(520), rng.bytes(8)),
-        9 => Change::Block(rng.below(520), rng.bytes(8)),
+        7 => Change::Value(rng.byte() % header::CALCULATIONS as u8, rng.long()),
+        8 => Change::Fixed(rng.below(header::FIXED - 7), rng.bytes(8)),
+        9 => Change::Block(rng.below(BLOCK - 7), rng.bytes(8)),
         10 => return records(rng, pair),
-        _ => Change::Fixed(16, shapes::tables(rng, e).to_vec()),
+        _ => Change::Fixed(
+            header::AT_03 - header::AT_FIXED,
+            shapes::tables(rng, e).to_vec(),
+        ),
     };
     vec![one]
 }
@@ -57,7 +61,7 @@ fn port(rng: &mut Rng) -> Change {
 /// Other records in a file; a reply remembered from it would no longer be one that it could have given.
 fn records(rng: &mut Rng, pair: &Pair) -> Vec<Change> {
     let e = &pair.equipment;
-    let equipped: Vec<usize> = (0..32).filter(|&f| e.files[f] != 0).collect();
+    let equipped: Vec<usize> = (0..header::FILES).filter(|&f| e.files[f] != 0).collect();
     let Some(file) = rng.pick_any(&equipped) else {
         return Vec::new();
     };

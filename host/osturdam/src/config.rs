@@ -1,74 +1,151 @@
 //! What a unit is equipped with.
 
-use crate::memory::Equipment;
-use crate::{ControlOutput, File, Input, SpecialCalculation};
+use crate::memory::{word_at, CONFIG};
+use crate::{header, raw, ControlOutput, File, Input, SpecialCalculation};
 
 /// An address that no unit has: with it every configuration is refused.
 const NO_UNIT: u16 = 0x7FF;
 
-/// A unit's address and equipment. Anything may be asked for; a unit that cannot be is told by
+/// A unit's address and equipment. Anything may be asked for; a unit that cannot be is told by [`Config::valid`], and by
 /// [`Outcome::NotConfigured`](crate::Outcome::NotConfigured) at each of its events.
 ///
 /// ```
 /// use osturdam::{Config, Input, Outcome, Unit};
 ///
 /// // no unit has input 20h
-/// let mut unit = Unit::fresh(Config::new(1).input(Input(0x20)));
-/// assert_eq!(unit.elapsed(1), Outcome::NotConfigured);
+/// let config = Config::new(1).input(Input(0x20));
+/// assert!(!config.valid());
+/// assert_eq!(Unit::fresh(config).elapsed(1), Outcome::NotConfigured);
 /// ```
 #[derive(Clone, Debug, PartialEq, Eq)]
 pub struct Config {
-    pub(crate) equipment: Equipment,
+    chars: [u8; CONFIG],
+}
+
+/// A place of a unit's memory as one of its configuration's.
+fn inside(place: u32) -> usize {
+    (place - header::AT_NUMBER) as usize
 }
 
 impl Config {
+    /// How many characters of a saved unit hold its configuration.
+    pub const BYTES: usize = CONFIG;
+
     /// A unit with nothing equipped and no parameter block. Units are 0 to 7FEh.
     pub fn new(unit: u16) -> Config {
-        Config {
-            equipment: Equipment::none(unit),
-        }
+        let mut made = Config { chars: [0; CONFIG] };
+        made.put_word(header::AT_NUMBER, unit);
+        made
     }
 
     /// With this input.
     #[must_use]
-    pub fn input(mut self, input: Input) -> Config {
-        self.equipment.inputs[usize::from(input.0)] = 1;
-        self
+    pub fn input(self, input: Input) -> Config {
+        self.with(header::AT_INPUTS, input.0, 1)
     }
 
     /// With this control output.
     #[must_use]
-    pub fn output(mut self, output: ControlOutput) -> Config {
-        self.equipment.outputs[usize::from(output.0)] = 1;
-        self
+    pub fn output(self, output: ControlOutput) -> Config {
+        self.with(header::AT_OUTPUTS, output.0, 1)
     }
 
     /// With this calculation.
     #[must_use]
-    pub fn calculation(mut self, calculation: SpecialCalculation) -> Config {
-        self.equipment.calculations[usize::from(calculation.0)] = 1;
-        self
+    pub fn calculation(self, calculation: SpecialCalculation) -> Config {
+        self.with(header::AT_CALCULATIONS, calculation.0, 1)
     }
 
     /// With this history file, whose records have so many values: 1 to [`VALUES`](crate::VALUES).
     #[must_use]
     pub fn file(mut self, file: File, values: u8) -> Config {
-        let tables = &mut self.equipment;
-        match (
-            tables.files.get_mut(usize::from(file.0)),
-            tables.values.get_mut(usize::from(file.0)),
-        ) {
-            (Some(equipped), Some(many)) => (*equipped, *many) = (1, values),
-            // the tables end there, so the refusal is asked for by the address
-            _ => tables.unit = NO_UNIT,
+        if u32::from(file.0) < header::FILES {
+            return self
+                .with(header::AT_FILES, file.0, 1)
+                .with(header::AT_VALUES, file.0, values);
         }
+        // the tables end there, so the refusal is asked for by the address
+        self.put_word(header::AT_NUMBER, NO_UNIT);
         self
     }
 
     /// With a parameter block of so many characters: 0 to [`BLOCK`](crate::BLOCK).
     #[must_use]
     pub fn block(mut self, length: usize) -> Config {
-        self.equipment.length = length;
+        match u16::try_from(length) {
+            Ok(word) => self.put_word(header::AT_LENGTH, word),
+            // no word says so many, so the refusal is asked for by the address
+            Err(_) => self.put_word(header::AT_NUMBER, NO_UNIT),
+        }
         self
+    }
+
+    /// Whether a unit can have it.
+    pub fn valid(&self) -> bool {
+        raw::valid(self)
+    }
+
+    /// The unit's address.
+    pub fn unit(&self) -> u16 {
+        word_at(&self.chars, inside(header::AT_NUMBER))
+    }
+
+    /// Whether an input is equipped.
+    pub fn has_input(&self, input: Input) -> bool {
+        self.at(header::AT_INPUTS, input.0) != 0
+    }
+
+    /// Whether a control output is equipped.
+    pub fn has_output(&self, output: ControlOutput) -> bool {
+        self.at(header::AT_OUTPUTS, output.0) != 0
+    }
+
+    /// Whether a calculation is equipped.
+    pub fn has_calculation(&self, calculation: SpecialCalculation) -> bool {
+        self.at(header::AT_CALCULATIONS, calculation.0) != 0
+    }
+
+    /// How many values the records of a history file have, if it is equipped.
+    pub fn values(&self, file: File) -> Option<u8> {
+        let equipped = u32::from(file.0) < header::FILES && self.at(header::AT_FILES, file.0) != 0;
+        equipped.then(|| self.at(header::AT_VALUES, file.0))
+    }
+
+    /// How long the parameter block is.
+    pub fn block_length(&self) -> u16 {
+        word_at(&self.chars, inside(header::AT_LENGTH))
+    }
+
+    pub(crate) fn chars(&self) -> &[u8; CONFIG] {
+        &self.chars
+    }
+
+    /// The configuration that lies in a unit's memory.
+    pub(crate) fn of_unit(unit: &[u8]) -> Config {
+        let mut chars = [0; CONFIG];
+        let own = unit.iter().skip(header::AT_NUMBER as usize);
+        for (place, char) in chars.iter_mut().zip(own) {
+            *place = *char;
+        }
+        Config { chars }
+    }
+
+    fn at(&self, table: u32, number: u8) -> u8 {
+        let place = inside(table) + usize::from(number);
+        self.chars.get(place).copied().unwrap_or(0)
+    }
+
+    fn with(mut self, table: u32, number: u8, char: u8) -> Config {
+        if let Some(place) = self.chars.get_mut(inside(table) + usize::from(number)) {
+            *place = char;
+        }
+        self
+    }
+
+    fn put_word(&mut self, place: u32, word: u16) {
+        let characters = self.chars.iter_mut().skip(inside(place));
+        for (place, char) in characters.zip(word.to_le_bytes()) {
+            *place = char;
+        }
     }
 }

@@ -1,9 +1,10 @@
 //! What a unit keeps besides areas and records: plain numbers, and a typed view of them.
 
+use crate::memory::word_at;
 use crate::{header, ControlOutput, File, Master, Ordinal};
 
-/// The 26 numbers that a unit keeps, in the order of the C header. Any numbers may be here: the library judges them, and
-/// [`Kept::view`] reads those that a unit writes.
+/// The numbers that a unit keeps besides its points, blocks and records. Any may be here: the library judges them, and [`Kept::view`]
+/// reads those that a unit writes.
 #[derive(Clone, Copy, Debug, PartialEq, Eq)]
 pub struct Kept([u16; Kept::NUMBERS]);
 
@@ -131,46 +132,112 @@ pub enum Mark {
 
 impl Kept {
     /// How many numbers there are.
-    pub const NUMBERS: usize = header::KEPT as usize;
+    const NUMBERS: usize = header::KEPT as usize;
 
-    /// These numbers.
-    pub fn from_numbers(numbers: [u16; Kept::NUMBERS]) -> Kept {
-        Kept(numbers)
+    /// The numbers that lie in a unit's memory.
+    pub(crate) fn of_unit(unit: &[u8]) -> Kept {
+        let first = header::AT_NUMBERS as usize;
+        Kept(std::array::from_fn(|n| word_at(unit, first + 2 * n)))
     }
 
-    /// The numbers.
-    pub fn numbers(&self) -> &[u16; Kept::NUMBERS] {
-        &self.0
-    }
-
-    pub(crate) fn numbers_mut(&mut self) -> &mut [u16; Kept::NUMBERS] {
-        &mut self.0
+    /// The number of this name in the C header.
+    fn at(&self, which: u32) -> u16 {
+        self.0.get(which as usize).copied().unwrap_or(0)
     }
 
     /// What the numbers say, if they are such as a unit writes. Whether each is in range only the library says, by
     /// [`Outcome::NotConfigured`](crate::Outcome::NotConfigured).
     pub fn view(&self) -> Option<View> {
-        let n = &self.0;
-        let [day, hour, minute, second, ms, ..] = *n;
         Some(View {
             clock: Clock {
-                day,
-                hour,
-                minute,
-                second,
-                ms,
+                day: self.at(header::DAY),
+                hour: self.at(header::HOUR),
+                minute: self.at(header::MINUTE),
+                second: self.at(header::SECOND),
+                ms: self.at(header::MS),
             },
-            hold: hold([n[5], n[6], n[7], n[8], n[9]])?,
-            write: pending([n[10], n[11], n[12], n[13], n[14]])?,
-            configure: bit(n[15])?,
-            error: bit(n[16])?,
-            broadcast: bit(n[17])?,
-            memory: memory([n[18], n[19], n[20], n[21], n[22], n[23]])?,
+            hold: self.hold()?,
+            write: self.pending()?,
+            configure: bit(self.at(header::STATUS_CONFIGURE))?,
+            error: bit(self.at(header::STATUS_ERROR))?,
+            broadcast: bit(self.at(header::STATUS_BROADCAST))?,
+            memory: self.memory()?,
             port: Port {
-                silence: n[24],
-                mark: mark(n[25])?,
+                silence: self.at(header::SILENCE),
+                mark: self.mark()?,
             },
         })
+    }
+
+    fn hold(&self) -> Option<Hold> {
+        let master = self.at(header::SELECT_MASTER);
+        let rest = [
+            self.at(header::SELECT_OUTPUT),
+            self.at(header::SELECT_CLOSE),
+            self.at(header::SELECT_AGE),
+        ];
+        match (u32::from(self.at(header::SELECT)), master, rest) {
+            (header::FREE, 0, [0, 0, 0]) => Some(Hold::Free),
+            (header::HELD, _, [output, close, age]) => Some(Hold::Held(Select {
+                master: Master(low(master)?),
+                output: ControlOutput(low(output)?),
+                close: bit(close)?,
+                age,
+            })),
+            (header::TIMED_OUT, _, [0, 0, 0]) => Some(Hold::TimedOut(Master(low(master)?))),
+            _ => None,
+        }
+    }
+
+    fn pending(&self) -> Option<Pending> {
+        let numbers = [
+            self.at(header::WRITE_MASTER),
+            self.at(header::WRITE_BIAS),
+            self.at(header::WRITE_ORDINAL),
+            self.at(header::WRITE_AGE),
+        ];
+        match (u32::from(self.at(header::WRITE)), numbers) {
+            (header::NO_WRITE, [0, 0, 0, 0]) => Some(Pending::NoWrite),
+            (header::WAITS, [master, bias, ordinal, age]) => Some(Pending::Waits(Write {
+                master: Master(low(master)?),
+                bias,
+                ordinal: Ordinal(low(ordinal)?),
+                age,
+            })),
+            _ => None,
+        }
+    }
+
+    fn memory(&self) -> Option<Memory> {
+        let numbers = [
+            self.at(header::MEMORY_MASTER),
+            self.at(header::MEMORY_FILE),
+            self.at(header::MEMORY_DUMP),
+            self.at(header::MEMORY_QUANTITY),
+            self.at(header::MEMORY_MORE),
+        ];
+        match (u32::from(self.at(header::MEMORY)), numbers) {
+            (header::NOTHING, [0, 0, 0, 0, 0]) => Some(Memory::Nothing),
+            (header::REMEMBERED, [master, file, dump, quantity, more]) => {
+                Some(Memory::Remembered(HistoryReply {
+                    master: Master(low(master)?),
+                    file: File(low(file)?),
+                    dump: bit(dump)?,
+                    quantity: low(quantity)?,
+                    more: bit(more)?,
+                }))
+            }
+            _ => None,
+        }
+    }
+
+    fn mark(&self) -> Option<Mark> {
+        match u32::from(self.at(header::MARK)) {
+            header::FINE => Some(Mark::Fine),
+            header::SILENT => Some(Mark::Silent),
+            header::DAMAGED => Some(Mark::Damaged),
+            _ => None,
+        }
     }
 }
 
@@ -184,54 +251,4 @@ fn bit(n: u16) -> Option<bool> {
 
 fn low(n: u16) -> Option<u8> {
     u8::try_from(n).ok()
-}
-
-fn hold(numbers: [u16; 5]) -> Option<Hold> {
-    match numbers {
-        [0, 0, 0, 0, 0] => Some(Hold::Free),
-        [1, master, output, close, age] => Some(Hold::Held(Select {
-            master: Master(low(master)?),
-            output: ControlOutput(low(output)?),
-            close: bit(close)?,
-            age,
-        })),
-        [2, master, 0, 0, 0] => Some(Hold::TimedOut(Master(low(master)?))),
-        _ => None,
-    }
-}
-
-fn pending(numbers: [u16; 5]) -> Option<Pending> {
-    match numbers {
-        [0, 0, 0, 0, 0] => Some(Pending::NoWrite),
-        [1, master, bias, ordinal, age] => Some(Pending::Waits(Write {
-            master: Master(low(master)?),
-            bias,
-            ordinal: Ordinal(low(ordinal)?),
-            age,
-        })),
-        _ => None,
-    }
-}
-
-fn memory(numbers: [u16; 6]) -> Option<Memory> {
-    match numbers {
-        [0, 0, 0, 0, 0, 0] => Some(Memory::Nothing),
-        [1, master, file, dump, quantity, more] => Some(Memory::Remembered(HistoryReply {
-            master: Master(low(master)?),
-            file: File(low(file)?),
-            dump: bit(dump)?,
-            quantity: low(quantity)?,
-            more: bit(more)?,
-        })),
-        _ => None,
-    }
-}
-
-fn mark(n: u16) -> Option<Mark> {
-    match n {
-        0 => Some(Mark::Fine),
-        1 => Some(Mark::Silent),
-        2 => Some(Mark::Damaged),
-        _ => None,
-    }
 }

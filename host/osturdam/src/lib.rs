@@ -1,6 +1,6 @@
 //! The proved remote unit of the Cooper 2179 serial protocol, behind a safe interface.
 //!
-//! A [`Unit`] owns its memory and its [`Config`]. It has no clock and no port of its own: the caller hands over each stretch of
+//! A [`Unit`] owns its memory, in which its [`Config`] lies too. It has no clock and no port of its own: the caller hands over each stretch of
 //! characters between two idle marks, the milliseconds that passed, and what happens locally. Every call takes every input and
 //! tells by an [`Outcome`] what it made of it; none panics. Two units do not touch.
 //!
@@ -19,7 +19,7 @@
 //!
 //! // store the unit, then send
 //! let saved = unit.to_bytes();
-//! assert_eq!(Unit::from_bytes(unit.config().clone(), &saved).to_bytes(), saved);
+//! assert_eq!(Unit::from_bytes(&saved).to_bytes(), saved);
 //! ```
 //!
 //! The static library is looked for in the folder that the environment variable `BOARD_LIB` names while building, or else where

@@ -76,7 +76,7 @@ answers! {
 }
 
 answers! {
-    /// How storing a record ended.
+    /// How storing a record ended: no outcome, though some numbers are the same.
     Stored {
         /// The record is held.
         Stored = STORED,
@@ -87,7 +87,7 @@ answers! {
         /// Not as many values as the file's records have.
         WrongValues = WRONG_VALUES,
         /// As [`Outcome::NotConfigured`]: nothing was changed.
-        NotConfigured = NOT_CONFIGURED,
+        NotConfigured = STORE_NOT_CONFIGURED,
     }
 }
 

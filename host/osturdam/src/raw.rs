@@ -6,128 +6,110 @@
 //! pointer, has no global state and calls nothing back.
 #![allow(unsafe_code)]
 
-use crate::memory::{Areas, Equipment, AREA, CALCULATIONS, FILES, FIXED, INPUTS};
-use crate::Kept;
+use crate::memory::{fitting, Memory, CONFIG, RECORDS, UNIT};
+use crate::Config;
 
-type Numbers = [u16; Kept::NUMBERS];
-type Equipped = [u8; INPUTS];
-type Words = [u16; INPUTS];
-type Results = [u32; CALCULATIONS];
-type Fixed = [u8; FIXED];
-type Area = [u8; AREA];
-type Files = [u8; FILES];
+type Chars = [u8; UNIT];
 
-/// `struct osturdam_turned`.
-#[repr(C)]
+/// What `osturdam_stretch` tells besides its outcome.
 pub(crate) struct Turned {
-    pub sent: usize,
     pub outcome: u8,
+    pub sent: u16,
     pub action: u8,
     pub output: u8,
 }
 
-#[rustfmt::skip] // as the C header has them: the configuration's parts, the unit's parts, the event
+#[rustfmt::skip] // as the C header has them: what is lent, then the event
 extern "C" {
+    fn osturdam_valid(config: *const [u8; CONFIG]) -> u8;
     fn osturdam_fresh(
-        kept: *mut Numbers, words: *mut Words, results: *mut Results, fixed: *mut Fixed, block: *mut u8, lent: usize, counts: *mut Files);
+        unit: *mut Chars, block: *mut u8, length: u64, config: *const [u8; CONFIG]);
     fn osturdam_stretch(
-        unit: u16, length: usize, inputs: *const Equipped, outputs: *const Equipped, calculations: *const Equipped, files: *const Files, values: *const Files,
-        kept: *mut Numbers, words: *mut Words, results: *const Results, fixed: *mut Fixed, block: *mut u8, lent: usize, area: *mut Area, counts: *mut Files,
-        buffer: *mut u8, room: usize, stretch: *const u8, heard: usize) -> Turned;
+        unit: *mut Chars, block: *mut u8, length: u64, records: *mut u8, room: u64,
+        buffer: *mut u8, buffer_room: u64, chars: *const u8, count: u64, turned: *mut [u8; 4]) -> u8;
     fn osturdam_elapsed(
-        unit: u16, length: usize, inputs: *const Equipped, outputs: *const Equipped, calculations: *const Equipped, files: *const Files, values: *const Files,
-        kept: *mut Numbers, block: *const u8, lent: usize, counts: *const Files,
+        unit: *mut Chars, block: *const u8, length: u64, records: *const u8, room: u64,
         ms: u32) -> u8;
     fn osturdam_set_word(
-        unit: u16, length: usize, inputs: *const Equipped, outputs: *const Equipped, calculations: *const Equipped, files: *const Files, values: *const Files,
-        kept: *const Numbers, words: *mut Words, block: *const u8, lent: usize, counts: *const Files,
+        unit: *mut Chars, block: *const u8, length: u64, records: *const u8, room: u64,
         input: u8, word: u16) -> u8;
     fn osturdam_pulses(
-        unit: u16, length: usize, inputs: *const Equipped, outputs: *const Equipped, calculations: *const Equipped, files: *const Files, values: *const Files,
-        kept: *const Numbers, words: *mut Words, block: *const u8, lent: usize, counts: *const Files,
+        unit: *mut Chars, block: *const u8, length: u64, records: *const u8, room: u64,
         input: u8, count: u16) -> u8;
     fn osturdam_set_value(
-        unit: u16, length: usize, inputs: *const Equipped, outputs: *const Equipped, calculations: *const Equipped, files: *const Files, values: *const Files,
-        kept: *const Numbers, results: *mut Results, block: *const u8, lent: usize, counts: *const Files,
+        unit: *mut Chars, block: *const u8, length: u64, records: *const u8, room: u64,
         calculation: u8, value: u32) -> u8;
     fn osturdam_store_record(
-        unit: u16, length: usize, inputs: *const Equipped, outputs: *const Equipped, calculations: *const Equipped, files: *const Files, values: *const Files,
-        kept: *mut Numbers, block: *const u8, lent: usize, area: *mut Area, counts: *mut Files,
-        file: u8, event: u8, given: *const u16, many: usize) -> u8;
+        unit: *mut Chars, block: *const u8, length: u64, records: *mut u8, room: u64,
+        file: u8, event: u8, values: *const u16, many: u64) -> u8;
 }
 
-pub(crate) fn fresh(c: &Equipment, u: &mut Areas) {
+const ROOM: u64 = RECORDS as u64;
+
+pub(crate) fn valid(config: &Config) -> bool {
+    // SAFETY: above.
+    unsafe { osturdam_valid(config.chars()) != 0 }
+}
+
+pub(crate) fn fresh(m: &mut Memory, config: &Config) {
+    let lent = fitting(config.block_length());
     // SAFETY: above; `lent` is at most the length of `block`, whose rest is not lent.
-    unsafe {
-        osturdam_fresh(
-            u.kept.numbers_mut(),
-            &mut u.words,
-            &mut u.results,
-            &mut u.fixed,
-            u.block.as_mut_ptr(),
-            c.lent(),
-            &mut u.counts,
-        )
-    }
+    unsafe { osturdam_fresh(&mut m.unit, m.block.as_mut_ptr(), lent, config.chars()) }
 }
 
-#[rustfmt::skip]
-pub(crate) fn stretch(c: &Equipment, u: &mut Areas, heard: &[u8], buffer: &mut [u8]) -> Turned {
+pub(crate) fn stretch(m: &mut Memory, heard: &[u8], buffer: &mut [u8]) -> Turned {
+    let (lent, mut turned) = (m.lent(), [0; 4]);
     // SAFETY: above; `block`, `buffer` and `heard` are told with lengths of memory that they have.
-    unsafe {
+    #[rustfmt::skip]
+    let outcome = unsafe {
         osturdam_stretch(
-            c.unit, c.length, &c.inputs, &c.outputs, &c.calculations, &c.files, &c.values,
-            u.kept.numbers_mut(), &mut u.words, &u.results, &mut u.fixed, u.block.as_mut_ptr(), c.lent(), &mut u.area, &mut u.counts,
-            buffer.as_mut_ptr(), buffer.len(), heard.as_ptr(), heard.len())
+            &mut m.unit, m.block.as_mut_ptr(), lent, m.records.as_mut_ptr(), ROOM,
+            buffer.as_mut_ptr(), buffer.len() as u64, heard.as_ptr(), heard.len() as u64, &mut turned)
+    };
+    let [low, high, action, output] = turned;
+    Turned {
+        outcome,
+        sent: u16::from_le_bytes([low, high]),
+        action,
+        output,
     }
 }
 
 #[rustfmt::skip]
-pub(crate) fn elapsed(c: &Equipment, u: &mut Areas, ms: u32) -> u8 {
+pub(crate) fn elapsed(m: &mut Memory, ms: u32) -> u8 {
+    let lent = m.lent();
     // SAFETY: above; `lent` is at most the length of `block`.
-    unsafe {
-        osturdam_elapsed(
-            c.unit, c.length, &c.inputs, &c.outputs, &c.calculations, &c.files, &c.values,
-            u.kept.numbers_mut(), u.block.as_ptr(), c.lent(), &u.counts, ms)
-    }
+    unsafe { osturdam_elapsed(&mut m.unit, m.block.as_ptr(), lent, m.records.as_ptr(), ROOM, ms) }
 }
 
 #[rustfmt::skip]
-pub(crate) fn set_word(c: &Equipment, u: &mut Areas, input: u8, word: u16) -> u8 {
+pub(crate) fn set_word(m: &mut Memory, input: u8, word: u16) -> u8 {
+    let lent = m.lent();
     // SAFETY: above; `lent` is at most the length of `block`.
-    unsafe {
-        osturdam_set_word(
-            c.unit, c.length, &c.inputs, &c.outputs, &c.calculations, &c.files, &c.values,
-            u.kept.numbers(), &mut u.words, u.block.as_ptr(), c.lent(), &u.counts, input, word)
-    }
+    unsafe { osturdam_set_word(&mut m.unit, m.block.as_ptr(), lent, m.records.as_ptr(), ROOM, input, word) }
 }
 
 #[rustfmt::skip]
-pub(crate) fn pulses(c: &Equipment, u: &mut Areas, input: u8, count: u16) -> u8 {
+pub(crate) fn pulses(m: &mut Memory, input: u8, count: u16) -> u8 {
+    let lent = m.lent();
     // SAFETY: above; `lent` is at most the length of `block`.
-    unsafe {
-        osturdam_pulses(
-            c.unit, c.length, &c.inputs, &c.outputs, &c.calculations, &c.files, &c.values,
-            u.kept.numbers(), &mut u.words, u.block.as_ptr(), c.lent(), &u.counts, input, count)
-    }
+    unsafe { osturdam_pulses(&mut m.unit, m.block.as_ptr(), lent, m.records.as_ptr(), ROOM, input, count) }
 }
 
 #[rustfmt::skip]
-pub(crate) fn set_value(c: &Equipment, u: &mut Areas, calculation: u8, value: u32) -> u8 {
+pub(crate) fn set_value(m: &mut Memory, calculation: u8, value: u32) -> u8 {
+    let lent = m.lent();
     // SAFETY: above; `lent` is at most the length of `block`.
-    unsafe {
-        osturdam_set_value(
-            c.unit, c.length, &c.inputs, &c.outputs, &c.calculations, &c.files, &c.values,
-            u.kept.numbers(), &mut u.results, u.block.as_ptr(), c.lent(), &u.counts, calculation, value)
-    }
+    unsafe { osturdam_set_value(&mut m.unit, m.block.as_ptr(), lent, m.records.as_ptr(), ROOM, calculation, value) }
 }
 
 #[rustfmt::skip]
-pub(crate) fn store_record(c: &Equipment, u: &mut Areas, file: u8, event: u8, given: &[u16]) -> u8 {
-    // SAFETY: above; `block` and `given` are told with lengths of memory that they have.
+pub(crate) fn store_record(m: &mut Memory, file: u8, event: u8, values: &[u16]) -> u8 {
+    let lent = m.lent();
+    // SAFETY: above; `block` and `values` are told with lengths of memory that they have.
     unsafe {
         osturdam_store_record(
-            c.unit, c.length, &c.inputs, &c.outputs, &c.calculations, &c.files, &c.values,
-            u.kept.numbers_mut(), u.block.as_ptr(), c.lent(), &mut u.area, &mut u.counts, file, event, given.as_ptr(), given.len())
+            &mut m.unit, m.block.as_ptr(), lent, m.records.as_mut_ptr(), ROOM,
+            file, event, values.as_ptr(), values.len() as u64)
     }
 }

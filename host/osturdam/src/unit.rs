@@ -1,9 +1,12 @@
 //! A unit and its events.
 
-use crate::memory::Areas;
-use crate::{raw, Action, Config, File, Input, Kept, Outcome, SpecialCalculation, Stored, Turn};
+use crate::memory::{word_at, Memory};
+use crate::{
+    header, raw, Action, Config, File, Input, Kept, Ordinal, Outcome, SpecialCalculation, Stored,
+    Turn, ROOM,
+};
 
-/// A remote unit: its configuration and all its memory.
+/// A remote unit: all its memory, in which its configuration lies too.
 ///
 /// ```
 /// use osturdam::{Config, File, Outcome, Stored, Unit, REPLY};
@@ -21,115 +24,178 @@ use crate::{raw, Action, Config, File, Input, Kept, Outcome, SpecialCalculation,
 /// ```
 #[derive(Clone, Debug, PartialEq, Eq)]
 pub struct Unit {
-    config: Config,
-    areas: Box<Areas>,
+    memory: Box<Memory>,
 }
 
 impl Unit {
-    /// How many characters hold a unit's state.
-    pub const BYTES: usize = Areas::BYTES;
+    /// How many characters hold a unit.
+    pub const BYTES: usize = Memory::BYTES;
 
     /// A fresh unit: clock on day 1, 00:00:00.000, all areas 0, no records.
     pub fn fresh(config: Config) -> Unit {
-        let mut areas = Areas::empty();
-        raw::fresh(&config.equipment, &mut areas);
-        Unit { config, areas }
+        let mut memory = Memory::empty();
+        raw::fresh(&mut memory, &config);
+        Unit { memory }
     }
 
-    /// The unit of a saved state. Any characters may be here: a state that is not in range is told by
-    /// [`Outcome::NotConfigured`] at each event, and none changes it.
+    /// The unit that was saved. Any characters may be here: one that is not in range is told by [`Outcome::NotConfigured`] at each event,
+    /// and none changes it. Its configuration is the one that it was saved with ([`Unit::config`]).
     ///
     /// ```
-    /// use osturdam::{Config, Outcome, Unit};
+    /// use osturdam::{Outcome, Unit};
     ///
-    /// let mut worn = Unit::from_bytes(Config::new(1), &[0xFF; Unit::BYTES]);
+    /// let mut worn = Unit::from_bytes(&[0xFF; Unit::BYTES]);
     /// assert_eq!(worn.elapsed(1), Outcome::NotConfigured);
     /// ```
-    pub fn from_bytes(config: Config, bytes: &[u8; Unit::BYTES]) -> Unit {
+    pub fn from_bytes(bytes: &[u8; Unit::BYTES]) -> Unit {
         Unit {
-            config,
-            areas: Areas::from_bytes(bytes),
+            memory: Memory::from_bytes(bytes),
         }
     }
 
-    /// The whole state but for the configuration, to be stored before a reply is sent.
+    /// The whole unit with its configuration, to be stored before a reply is sent: the same characters on every machine.
     pub fn to_bytes(&self) -> Box<[u8; Unit::BYTES]> {
-        self.areas.to_bytes()
+        self.memory.to_bytes()
     }
 
     /// What the unit is equipped with.
-    pub fn config(&self) -> &Config {
-        &self.config
+    pub fn config(&self) -> Config {
+        Config::of_unit(&self.memory.unit)
     }
 
     /// Clock, select, write, status, latest history reply and port.
-    pub fn kept(&self) -> &Kept {
-        &self.areas.kept
+    pub fn kept(&self) -> Kept {
+        Kept::of_unit(&self.memory.unit)
     }
 
     /// An input's word.
     pub fn word(&self, input: Input) -> u16 {
-        self.areas.words[usize::from(input.0)]
+        word_at(
+            &self.memory.unit,
+            header::AT_WORDS as usize + 2 * usize::from(input.0),
+        )
+    }
+
+    /// A calculation's value, if it is one of the unit's 128.
+    pub fn value(&self, calculation: SpecialCalculation) -> Option<u32> {
+        let number = u32::from(calculation.0);
+        let chars = self.memory.part(header::AT_RESULTS + 4 * number, 4);
+        let value = chars.iter().rev().fold(0, |v, c| v << 8 | u32::from(*c));
+        (number < header::CALCULATIONS).then_some(value)
+    }
+
+    /// The characters of a block that masters write and read, if there is one of this ordinal.
+    pub fn block(&self, ordinal: Ordinal) -> Option<&[u8]> {
+        let memory = &self.memory;
+        match u32::from(ordinal.0) {
+            header::ORDINAL_00 => Some(memory.part(header::AT_00, header::LENGTH_00)),
+            header::ORDINAL_03 => Some(memory.part(header::AT_03, header::LENGTH_03)),
+            header::ORDINAL_0B => Some(memory.part(header::AT_0B, header::LENGTH_0B)),
+            header::ORDINAL_06 => memory.block.get(..memory.lent() as usize),
+            _ => None,
+        }
     }
 
     /// How many records a file holds, if it is one of the unit's 32.
     pub fn held(&self, file: File) -> Option<u8> {
-        self.areas.counts.get(usize::from(file.0)).copied()
+        let counts = self.memory.part(header::AT_COUNTS, header::FILES);
+        counts.get(usize::from(file.0)).copied()
+    }
+
+    /// The characters of a record that a file holds; record 0 is the oldest.
+    pub fn record(&self, file: File, record: u8) -> Option<&[u8]> {
+        let values = self.config().values(file)?;
+        if record >= self.held(file)? {
+            return None;
+        }
+        let slot = header::RECORD_SLOT as usize;
+        let start = (usize::from(file.0) * ROOM + usize::from(record)) * slot;
+        let length = header::RECORD_HEAD as usize + 2 * usize::from(values);
+        self.memory.records.get(start..start + length)
     }
 
     /// A stretch of characters between two idle marks was heard. The caller stores the unit, then sends the reply.
     pub fn stretch<'a>(&mut self, heard: &[u8], buffer: &'a mut [u8]) -> Turn<'a> {
-        let turned = raw::stretch(&self.config.equipment, &mut self.areas, heard, buffer);
+        let turned = raw::stretch(&mut self.memory, heard, buffer);
         Turn {
             outcome: Outcome::told(turned.outcome),
             action: Action::told(turned.action, turned.output),
-            reply: buffer.get(..turned.sent).unwrap_or(&[]),
+            reply: buffer.get(..usize::from(turned.sent)).unwrap_or(&[]),
         }
     }
 
     /// So many milliseconds have passed.
     pub fn elapsed(&mut self, ms: u32) -> Outcome {
-        Outcome::told(raw::elapsed(&self.config.equipment, &mut self.areas, ms))
+        Outcome::told(raw::elapsed(&mut self.memory, ms))
     }
 
     /// A status or analog word is now this.
     pub fn set_word(&mut self, input: Input, word: u16) -> Outcome {
-        Outcome::told(raw::set_word(
-            &self.config.equipment,
-            &mut self.areas,
-            input.0,
-            word,
-        ))
+        Outcome::told(raw::set_word(&mut self.memory, input.0, word))
     }
 
     /// So many pulses were counted on an accumulator.
     pub fn pulses(&mut self, input: Input, count: u16) -> Outcome {
-        Outcome::told(raw::pulses(
-            &self.config.equipment,
-            &mut self.areas,
-            input.0,
-            count,
-        ))
+        Outcome::told(raw::pulses(&mut self.memory, input.0, count))
     }
 
     /// A calculation's value is now this pattern of 32 bits: `f32::to_bits` of a number, say.
     pub fn set_value(&mut self, calculation: SpecialCalculation, value: u32) -> Outcome {
-        Outcome::told(raw::set_value(
-            &self.config.equipment,
-            &mut self.areas,
-            calculation.0,
-            value,
-        ))
+        Outcome::told(raw::set_value(&mut self.memory, calculation.0, value))
     }
 
     /// A record of this event and these values is to be stored under the unit's clock.
     pub fn store_record(&mut self, file: File, event: u8, values: &[u16]) -> Stored {
-        Stored::told(raw::store_record(
-            &self.config.equipment,
-            &mut self.areas,
-            file.0,
-            event,
-            values,
-        ))
+        Stored::told(raw::store_record(&mut self.memory, file.0, event, values))
+    }
+}
+
+#[cfg(test)]
+mod tests {
+    use super::*;
+    use crate::ControlOutput;
+
+    #[test]
+    fn numbers_that_no_unit_writes_have_no_view_and_are_refused() {
+        let fresh = Unit::fresh(Config::new(1).output(ControlOutput(9)));
+        assert!(fresh.kept().view().is_some());
+        for (which, number) in [
+            (header::SELECT, 3),
+            (header::SELECT_CLOSE, 2),
+            (header::SELECT_MASTER, 1),
+            (header::WRITE, 2),
+            (header::WRITE_BIAS, 1),
+            (header::WRITE_ORDINAL, 256),
+            (header::STATUS_CONFIGURE, 2),
+            (header::STATUS_ERROR, 9),
+            (header::STATUS_BROADCAST, 256),
+            (header::MEMORY, 2),
+            (header::MEMORY_MASTER, 1),
+            (header::MARK, 3),
+        ] {
+            let mut worn = fresh.clone();
+            let place = (header::AT_NUMBERS + 2 * which) as usize;
+            worn.memory.unit[place..place + 2].copy_from_slice(&u16::to_le_bytes(number));
+            let before = worn.clone();
+            assert_eq!(worn.kept().view(), None, "number {which}");
+            assert_eq!(worn.elapsed(0), Outcome::NotConfigured, "number {which}");
+            assert_eq!(worn, before);
+            assert_eq!(Unit::from_bytes(&worn.to_bytes()), worn);
+        }
+    }
+
+    #[test]
+    fn memory_of_another_layout_is_refused() {
+        let fresh = Unit::fresh(Config::new(1));
+        let place = header::AT_LAYOUT as usize;
+        let own = word_at(&fresh.memory.unit, place);
+        assert_eq!(u32::from(own), header::LAYOUT);
+        for other in [0, own + 1, own + 256, u16::MAX] {
+            let mut worn = fresh.clone();
+            worn.memory.unit[place..place + 2].copy_from_slice(&other.to_le_bytes());
+            let before = worn.clone();
+            assert_eq!(worn.elapsed(1), Outcome::NotConfigured, "layout {other}");
+            assert_eq!(worn, before);
+        }
     }
 }

@@ -69,7 +69,10 @@ class Events(LiveTest):
         given = self.write('given', 'word 30h 7\npulse 40h 3')
         with open(given) as lines:
             process = subprocess.Popen([*RUN, '--events', '-', '--log', '-'], cwd=self.folder, stdin=lines, stdout=subprocess.PIPE, text=True)
-        told = [process.stdout.readline() for _ in range(5)]
+        told = [process.stdout.readline()]
+        while sum(line.startswith('E') for line in told) < 2:
+            told.append(process.stdout.readline())
+            self.assertTrue(told[-1])
         wire = self.wire(told[0].split()[-1])
         self.assertEqual(wire.ask(frame(A, UNIT, 0x00, 0x41)).data, b'\7\0\3\0')
         process.kill()

@@ -8,11 +8,11 @@ use Rattle.bench.proofs.run.Statement.{statement}
 use Rattle.bench.proofs.run.Tie as tie
 
 abbrev Inv-loop : tie.InvT-loop
-Inv-loop inputs kept₀ words₀ results fixed₀ area₀ counts₀ read₀ line₀ shown₀ flow₀ turns₀ kept words fixed area counts read line shown flow turns =
-    Flows flow × (flow .number + turns ≤ 18446744073709551615) × (length read ≡ 65536) × (length line ≡ 2001) × (length shown ≡ 65536)
+Inv-loop unit₀ records₀ read₀ line₀ shown₀ flow₀ turns₀ unit records read line shown flow turns =
+    Flows flow × (flow .number + turns ≤ 18446744073709551615) × (length read ≡ 65536) × (length line ≡ 2001) × (length shown ≡ 65536) × (length records ≡ length records₀)
 
 abbrev μ-loop : tie.MeasureT-loop
-μ-loop inputs kept₀ words₀ results fixed₀ area₀ counts₀ read₀ line₀ shown₀ flow₀ turns₀ kept words fixed area counts read line shown flow turns =
+μ-loop unit₀ records₀ read₀ line₀ shown₀ flow₀ turns₀ unit records read line shown flow turns =
     turns
 
 start-requires : tie.Need-start-requires Inv-loop μ-loop
@@ -54,6 +54,9 @@ slice-aggregate-write-out c = search needs
 write-out-requires : tie.Need-write-out-requires Inv-loop μ-loop
 write-out-requires c κs = search needs
 
+same-length : tie.Need-same-length Inv-loop μ-loop
+same-length c = search needs
+
 returns : tie.Need-returns Inv-loop μ-loop
 returns c = search needs
 
@@ -76,4 +79,5 @@ run-spec =
     loop-again-2
     slice-aggregate-write-out
     write-out-requires
+    same-length
     returns)

@@ -19,19 +19,22 @@ same-length-2 c = search needs
 same-length-3 : tie.Need-same-length-3
 same-length-3 c = search needs
 
-returns : tie.Need-returns
-returns c =
-    let a = c .before .before .answer .ensures in
-    (a .0, omega (arith, a .1, c .before .before .before .before .before .before .before .before .before .before .before .before .before .before .before .step .ensures .1))
-
 same-length-4 : tie.Need-same-length-4
 same-length-4 c = search needs
+
+returns : tie.Need-returns
+returns c =
+    let a = c .before .before .before .before .answer .ensures in
+    (a .0, omega (arith, a .1, c .before .before .before .before .before .before .before .before .before .before .before .before .before .before .step .ensures .1))
 
 same-length-5 : tie.Need-same-length-5
 same-length-5 c = search needs
 
 same-length-6 : tie.Need-same-length-6
 same-length-6 c = search needs
+
+same-length-7 : tie.Need-same-length-7
+same-length-7 c = search needs
 
 returns-2 : tie.Need-returns-2
 returns-2 c = search needs
@@ -45,8 +48,9 @@ turn-spec =
     same-length
     same-length-2
     same-length-3
-    returns
     same-length-4
+    returns
     same-length-5
     same-length-6
+    same-length-7
     returns-2)

@@ -30,6 +30,9 @@ shared-slice-read-count-2 c = search needs
 wide-requires : tie.Need-wide-requires
 wide-requires c κs = search needs
 
+fixed-of-requires : tie.Need-fixed-of-requires
+fixed-of-requires c κs = search needs
+
 reaches-requires : tie.Need-reaches-requires
 reaches-requires c κs = search needs
 
@@ -39,8 +42,8 @@ find-requires c κs = search needs
 copy-requires : tie.Need-copy-requires
 copy-requires c κs = search needs
 
-cast-t28 : tie.Need-cast-t28
-cast-t28 c = search needs
+cast-t25 : tie.Need-cast-t25
+cast-t25 c = search needs
 
 same-length-2 : tie.Need-same-length-2
 same-length-2 c = search needs
@@ -48,10 +51,11 @@ same-length-2 c = search needs
 returns-2 : tie.Need-returns-2
 returns-2 c =
     let d = c .before .before .before .before .before .before in
-    let w = d .before .before .before .before .before .before in
-    let in-block = sym (d .before .reaches .ensures) ∙ d .if2 .taken in
-    found-as _ _ _ _ _ _ _ _ (w .before .if1 .left) (w .word-at .ensures) in-block
-    (c .before .before .before .before .find .ensures) (d .before .before .before .wide .ensures .0) (c .before .before .copy .ensures)
+    let w = d .before .before .before .before .before in
+    let in-block = sym (d .reaches .ensures) ∙ c .before .before .before .before .before .if2 .taken in
+    rw (← (d .before .fixed-of .ensures))
+    (found-as _ _ _ _ _ _ _ _ (w .before .if1 .left) (w .word-at .ensures) in-block
+    (c .before .before .before .before .find .ensures) (d .before .before .wide .ensures .0) (c .before .before .copy .ensures))
 
 returned-requires-2 : tie.Need-returned-requires-2
 returned-requires-2 c κs = search needs
@@ -62,10 +66,11 @@ same-length-3 c = search needs
 returns-3 : tie.Need-returns-3
 unfolding readOf counts
 returns-3 c =
-    let d = c .before .before .before .before in
-    let w = d .before .before .before .before .before .before in
-    let out = sym (d .before .reaches .ensures) ∙ d .if2 .left in
-    simp (eq-eqb _ _ (w .before .if1 .left), sym (w .word-at .ensures), out) (c .before .before .returned2 .ensures)
+    let d = c .before .before .before .before .before in
+    let w = d .before .before .before .before .before in
+    let out = sym (d .reaches .ensures) ∙ c .before .before .before .before .if2 .left in
+    rw (← (d .before .fixed-of .ensures))
+    (simp (eq-eqb _ _ (w .before .if1 .left), sym (w .word-at .ensures), out) (c .before .before .returned2 .ensures))
 
 pub read-spec : {M : Type 1} → statement M
 read-spec =
@@ -78,10 +83,11 @@ read-spec =
     shared-slice-read-count
     shared-slice-read-count-2
     wide-requires
+    fixed-of-requires
     reaches-requires
     find-requires
     copy-requires
-    cast-t28
+    cast-t25
     same-length-2
     returns-2
     returned-requires-2

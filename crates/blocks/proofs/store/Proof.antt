@@ -1,9 +1,11 @@
--- `blocks::store` meets its contract: what copy wrote is the run that the definition puts.
-use mathlib.Core.Path.{sym, _∙_}
-use Rattle.blocks.proofs.AnswerLaws.{not-stored, stored-block, stored-fixed}
+-- `blocks::store` meets its contract: what was written is the run that the definition puts.
+use Rattle.blocks.proofs.AnswerLaws.{judged-as, not-stored, stored-block, stored-fixed}
 use borrow.Author.Needs.{needs}
 use Rattle.blocks.proofs.store.Statement.{statement}
 use Rattle.blocks.proofs.store.Tie as tie
+
+fixed-of-requires : tie.Need-fixed-of-requires
+fixed-of-requires c κs = search needs
 
 cast-reaches : tie.Need-cast-reaches
 cast-reaches c = search needs
@@ -23,17 +25,18 @@ same-length c = search needs
 returns : tie.Need-returns
 returns c =
     let d = c .before .before .before .before .before in
-    let in-block = sym (d .before .before .reaches .ensures) ∙ d .before .if1 .taken in
+    let e = d .before .before in
+    let in-block = judged-as _ _ _ _ _ _ _ _ (e .before .before .fixed-of .ensures) (e .reaches .ensures) (d .before .if1 .taken) in
     stored-block _ _ _ _ _ _ _ in-block (d .if2 .taken) (c .before .before .before .copy .ensures) (c .accepted .ensures)
 
 base-of-requires : tie.Need-base-of-requires
 base-of-requires c κs = search needs
 
-add-copy : tie.Need-add-copy
-add-copy c = search needs
+add-put-fixed : tie.Need-add-put-fixed
+add-put-fixed c = search needs
 
-copy-requires-2 : tie.Need-copy-requires-2
-copy-requires-2 c κs = search needs
+put-fixed-requires : tie.Need-put-fixed-requires
+put-fixed-requires c κs = search needs
 
 accepted-requires-2 : tie.Need-accepted-requires-2
 accepted-requires-2 c κs = search needs
@@ -44,8 +47,9 @@ same-length-2 c = search needs
 returns-2 : tie.Need-returns-2
 returns-2 c =
     let d = c .before .before .before .before in
-    let in-block = sym (d .before .before .reaches .ensures) ∙ d .before .if1 .taken in
-    stored-fixed _ _ _ _ _ _ _ _ in-block (d .if2 .left) (c .before .before .base-of .ensures .0) (c .before .copy2 .ensures) (c .accepted2 .ensures)
+    let e = d .before .before in
+    let in-block = judged-as _ _ _ _ _ _ _ _ (e .before .before .fixed-of .ensures) (e .reaches .ensures) (d .before .if1 .taken) in
+    stored-fixed _ _ _ _ _ _ _ _ in-block (d .if2 .left) (c .before .before .base-of .ensures .0) (c .before .put-fixed .ensures) (c .accepted2 .ensures)
 
 refused-requires : tie.Need-refused-requires
 refused-requires c κs = search needs
@@ -54,12 +58,16 @@ same-length-3 : tie.Need-same-length-3
 same-length-3 c = search needs
 
 returns-3 : tie.Need-returns-3
-returns-3 c = not-stored _ _ _ _ _ _ (sym (c .before .before .reaches .ensures) ∙ c .before .if1 .left) (c .refused .ensures)
+returns-3 c =
+    let e = c .before .before in
+    let out = judged-as _ _ _ _ _ _ _ _ (e .before .before .fixed-of .ensures) (e .reaches .ensures) (c .before .if1 .left) in
+    not-stored _ _ _ _ _ _ out (c .refused .ensures)
 
 pub store-spec : {M : Type 1} → statement M
 store-spec =
     tie.close
     (tie.spec
+    fixed-of-requires
     cast-reaches
     reaches-requires
     copy-requires
@@ -67,8 +75,8 @@ store-spec =
     same-length
     returns
     base-of-requires
-    add-copy
-    copy-requires-2
+    add-put-fixed
+    put-fixed-requires
     accepted-requires-2
     same-length-2
     returns-2

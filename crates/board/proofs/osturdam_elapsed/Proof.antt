@@ -10,7 +10,7 @@ number-requires : tie.Need-number-requires
 number-requires c κs = search needs
 
 returns : tie.Need-returns
-returns c = λ words results fixed area. record { answer = _; tells = c .before .elapsed .ensures words results fixed area; said = c .number .ensures }
+returns c = record { answer = _; tells = c .before .elapsed .ensures; said = c .number .ensures }
 
 pub osturdam-elapsed-spec : {M : Type 1} → statement M
 osturdam-elapsed-spec = tie.close (tie.spec elapsed-requires number-requires returns)

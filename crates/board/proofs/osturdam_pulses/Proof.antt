@@ -10,7 +10,7 @@ number-requires : tie.Need-number-requires
 number-requires c κs = search needs
 
 returns : tie.Need-returns
-returns c = λ results fixed area. record { answer = _; tells = c .before .pulses .ensures results fixed area; said = c .number .ensures }
+returns c = record { answer = _; tells = c .before .pulses .ensures; said = c .number .ensures }
 
 pub osturdam-pulses-spec : {M : Type 1} → statement M
 osturdam-pulses-spec = tie.close (tie.spec pulses-requires number-requires returns)

@@ -10,7 +10,7 @@ number-requires : tie.Need-number-requires
 number-requires c κs = search needs
 
 returns : tie.Need-returns
-returns c = λ words fixed area. record { answer = _; tells = c .before .set-value .ensures words fixed area; said = c .number .ensures }
+returns c = record { answer = _; tells = c .before .set-value .ensures; said = c .number .ensures }
 
 pub osturdam-set-value-spec : {M : Type 1} → statement M
 osturdam-set-value-spec = tie.close (tie.spec set-value-requires number-requires returns)

@@ -10,7 +10,7 @@ number-requires : tie.Need-number-requires
 number-requires c κs = search needs
 
 returns : tie.Need-returns
-returns c = λ results fixed area. record { answer = _; tells = c .before .set-word .ensures results fixed area; said = c .number .ensures }
+returns c = record { answer = _; tells = c .before .set-word .ensures; said = c .number .ensures }
 
 pub osturdam-set-word-spec : {M : Type 1} → statement M
 osturdam-set-word-spec = tie.close (tie.spec set-word-requires number-requires returns)

@@ -9,8 +9,11 @@ store-record-requires c κs = search needs
 answer-number-requires : tie.Need-answer-number-requires
 answer-number-requires c κs = search needs
 
+same-length : tie.Need-same-length
+same-length c = search needs
+
 returns : tie.Need-returns
-returns c = λ words results fixed. record { answer = _; tells = c .before .store-record .ensures words results fixed; said = c .answer-number .ensures }
+returns c = record { answer = _; tells = c .before .before .before .store-record .ensures; said = c .answer-number .ensures }
 
 pub osturdam-store-record-spec : {M : Type 1} → statement M
-osturdam-store-record-spec = tie.close (tie.spec store-record-requires answer-number-requires returns)
+osturdam-store-record-spec = tie.close (tie.spec store-record-requires answer-number-requires same-length returns)

@@ -7,17 +7,18 @@ use mathlib.Core.List.{List}
 use lib.ListN.{length}
 use Rattle.chars.specs.Gather.{gather, upFrom}
 use Rattle.model.specs.Calculations.{valueOf}
+use Rattle.layout.specs.Unit.{configIn}
 use Rattle.calculations.proofs.CalculationLaws.{count-none, count-taken, count-left}
 use borrow.Author.Needs.{needs}
 use Rattle.calculations.proofs.count.Statement.{statement}
 use Rattle.calculations.proofs.count.Tie as tie
 
 abbrev Inv-loop : tie.InvT-loop
-Inv-loop table n₀ k₀ n k =
-    (k ≤ 128) × (n ≤ k) × ((values : List ℕ) → 4 * n ≡ length (gather (valueOf table values) (upFrom 0 k)))
+Inv-loop unit n₀ k₀ n k =
+    (k ≤ 128) × (n ≤ k) × ((values : List ℕ) → 4 * n ≡ length (gather (valueOf (configIn unit .calculations) values) (upFrom 0 k)))
 
 abbrev μ-loop : tie.MeasureT-loop
-μ-loop table n₀ k₀ n k = 128 - k
+μ-loop unit n₀ k₀ n k = 128 - k
 
 loop-holds : tie.Need-loop-holds Inv-loop μ-loop
 loop-holds c = (omega arith, omega arith, λ vs. count-none _ vs)

@@ -10,17 +10,19 @@ use Rattle.chars.proofs.PutLaws.{part-none, part-whole, front-more, put-one}
 use Rattle.chars.proofs.GatherLaws.{gathered-none, gathered-more, gathered-same}
 use Rattle.model.specs.Limits.{replyHead}
 use Rattle.model.specs.Calculations.{missingOf}
+use Rattle.layout.specs.Unit.{configIn}
 use Rattle.calculations.proofs.CalculationLaws.{missing-taken, missing-left}
 use borrow.Author.Needs.{needs}
 use Rattle.calculations.proofs.missing.Statement.{statement}
 use Rattle.calculations.proofs.missing.Tie as tie
 
 abbrev Inv-loop : tie.InvT-loop
-Inv-loop table ns reply₀ to₀ n i₀ reply to i =
-    (i ≤ n) × (to ≤ replyHead + i) × (length reply ≡ length reply₀) × Gathered (missingOf table) (part ns 0 i) reply₀ replyHead reply to
+Inv-loop unit ns reply₀ to₀ n i₀ reply to i =
+    (i ≤ n) × (to ≤ replyHead + i) × (length reply ≡ length reply₀)
+    × Gathered (missingOf (configIn unit .calculations)) (part ns 0 i) reply₀ replyHead reply to
 
 abbrev μ-loop : tie.MeasureT-loop
-μ-loop table ns reply₀ to₀ n i₀ reply to i = n - i
+μ-loop unit ns reply₀ to₀ n i₀ reply to i = n - i
 
 loop-holds : tie.Need-loop-holds Inv-loop μ-loop
 loop-holds c = (omega arith, omega arith, refl, rw part-none (gathered-none _ _ _))

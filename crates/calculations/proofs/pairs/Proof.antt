@@ -10,17 +10,19 @@ use Rattle.chars.proofs.WordLaws.{length-value}
 use Rattle.chars.proofs.GatherLaws.{gathered-none, gathered-more}
 use Rattle.model.specs.Limits.{replyHead}
 use Rattle.model.specs.Calculations.{pairOf}
+use Rattle.layout.specs.Unit.{unitIn}
 use Rattle.calculations.proofs.CalculationLaws.{put-pair, pair-of}
 use borrow.Author.Needs.{needs}
 use Rattle.calculations.proofs.pairs.Statement.{statement}
 use Rattle.calculations.proofs.pairs.Tie as tie
 
 abbrev Inv-loop : tie.InvT-loop
-Inv-loop values ns reply₀ to₀ n i₀ reply to i =
-    (i ≤ n) × (to ≡ replyHead + 5 * i) × (length reply ≡ length reply₀) × Gathered (pairOf values) (part ns 0 i) reply₀ replyHead reply to
+Inv-loop unit ns reply₀ to₀ n i₀ reply to i =
+    (i ≤ n) × (to ≡ replyHead + 5 * i) × (length reply ≡ length reply₀)
+    × Gathered (pairOf (unitIn unit .values)) (part ns 0 i) reply₀ replyHead reply to
 
 abbrev μ-loop : tie.MeasureT-loop
-μ-loop values ns reply₀ to₀ n i₀ reply to i = n - i
+μ-loop unit ns reply₀ to₀ n i₀ reply to i = n - i
 
 loop-holds : tie.Need-loop-holds Inv-loop μ-loop
 loop-holds c = (omega arith, omega arith, refl, rw part-none (gathered-none _ _ _))
@@ -35,7 +37,7 @@ add-put-value : tie.Need-add-put-value Inv-loop μ-loop
 add-put-value c = search needs
 
 value-of-requires : tie.Need-value-of-requires Inv-loop μ-loop
-value-of-requires c κs = c .before .before .before .before .before .before .pre .1 _ (c .before .before .loop-test .taken)
+value-of-requires c κs = search needs
 
 put-value-requires : tie.Need-put-value-requires Inv-loop μ-loop
 put-value-requires c κs = simp length-set (omega arith)

@@ -3,7 +3,7 @@ use mathlib.Core.Path.{refl}
 use Rattle.chars.proofs.GatherLaws.{gathered-from, gathered-nothing, gathered-unchanged, gathered-some}
 use Rattle.model.specs.declared.Outcome.the-variants.{Done, NotValid, TooLong}
 use Rattle.points.proofs.AnswerLaws.{fills-refused, fills-gathered}
-use Rattle.calculations.proofs.CalculationLaws.{none-missing, asked-missing, asked-long, asked-done}
+use Rattle.calculations.proofs.CalculationLaws.{asked-missing, asked-long, asked-done}
 use borrow.Author.Needs.{needs}
 use Rattle.calculations.proofs.those.Statement.{statement}
 use Rattle.calculations.proofs.those.Tie as tie
@@ -11,11 +11,11 @@ use Rattle.calculations.proofs.those.Tie as tie
 missing-requires : tie.Need-missing-requires
 missing-requires c κs = search needs
 
-sub-t11 : tie.Need-sub-t11
-sub-t11 c = search needs
+sub-t10 : tie.Need-sub-t10
+sub-t10 c = search needs
 
-cast-t12 : tie.Need-cast-t12
-cast-t12 c = search needs
+cast-t11 : tie.Need-cast-t11
+cast-t11 c = search needs
 
 same-length : tie.Need-same-length
 same-length c = search needs
@@ -37,14 +37,13 @@ returns-2 c =
     fills-refused TooLong (asked-long _ _ _ (gathered-nothing g (c .before .before .if1 .left)) (c .before .if2 .taken)) (c .refused .ensures) (gathered-unchanged g (c .before .before .if1 .left))
 
 pairs-requires : tie.Need-pairs-requires
-pairs-requires c κs =
-    (search needs, none-missing _ _ (gathered-nothing (c .before .before .before .before .before .missing .ensures .0) (c .before .before .if1 .left)))
+pairs-requires c κs = search needs
 
-sub-t13 : tie.Need-sub-t13
-sub-t13 c = search needs
+sub-t12 : tie.Need-sub-t12
+sub-t12 c = search needs
 
-cast-t18 : tie.Need-cast-t18
-cast-t18 c = search needs
+cast-t17 : tie.Need-cast-t17
+cast-t17 c = search needs
 
 same-length-3 : tie.Need-same-length-3
 same-length-3 c = search needs
@@ -60,15 +59,15 @@ those-spec =
     tie.close
     (tie.spec
     missing-requires
-    sub-t11
-    cast-t12
+    sub-t10
+    cast-t11
     same-length
     returns
     refused-requires
     same-length-2
     returns-2
     pairs-requires
-    sub-t13
-    cast-t18
+    sub-t12
+    cast-t17
     same-length-3
     returns-3)

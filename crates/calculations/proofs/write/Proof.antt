@@ -10,17 +10,19 @@ use Rattle.chars.proofs.WordLaws.{length-value}
 use Rattle.chars.proofs.GatherLaws.{up-none, up-next, gathered-none, gathered-more, gathered-same}
 use Rattle.model.specs.Limits.{replyHead}
 use Rattle.model.specs.Calculations.{valueOf}
+use Rattle.layout.specs.Unit.{unitIn, configIn}
 use Rattle.calculations.proofs.CalculationLaws.{value-taken, value-left}
 use borrow.Author.Needs.{needs}
 use Rattle.calculations.proofs.write.Statement.{statement}
 use Rattle.calculations.proofs.write.Tie as tie
 
 abbrev Inv-loop : tie.InvT-loop
-Inv-loop table values reply₀ to₀ k₀ reply to k =
-    (k ≤ 128) × (to ≤ replyHead + 4 * k) × (length reply ≡ length reply₀) × Gathered (valueOf table values) (upFrom 0 k) reply₀ replyHead reply to
+Inv-loop unit reply₀ to₀ k₀ reply to k =
+    (k ≤ 128) × (to ≤ replyHead + 4 * k) × (length reply ≡ length reply₀)
+    × Gathered (valueOf (configIn unit .calculations) (unitIn unit .values)) (upFrom 0 k) reply₀ replyHead reply to
 
 abbrev μ-loop : tie.MeasureT-loop
-μ-loop table values reply₀ to₀ k₀ reply to k = 128 - k
+μ-loop unit reply₀ to₀ k₀ reply to k = 128 - k
 
 loop-holds : tie.Need-loop-holds Inv-loop μ-loop
 loop-holds c = (omega arith, omega arith, refl, rw up-none (gathered-none _ _ _))

@@ -3,8 +3,11 @@ use borrow.Author.Tests.{eq-eqb, ne-eqb}
 use Rattle.model.specs.declared.Outcome.the-variants.{BroadcastDone, BroadcastRefused}
 use Rattle.numbers.specs.Numbers.{coreIn, memoryIn, portIn}
 use Rattle.numbers.proofs.PlaceLaws.{broadcast-written}
-use Rattle.events.specs.Kept.{areasOf}
+use Rattle.events.specs.Kept.{areasIn}
 use Rattle.commands.proofs.BroadcastLaws.{makes-broadcast}
+use Rattle.layout.specs.Unit.{numbersIn}
+use Rattle.layout.proofs.UnitLaws.{numbers-left, numbers-only}
+use Rattle.commands.proofs.CommandLaws.{unshifted-numbers, unshifted-then, numbers-kept}
 use borrow.Author.Needs.{needs}
 use Rattle.commands.proofs.broadcast.Statement.{statement}
 use Rattle.commands.proofs.broadcast.Tie as tie
@@ -23,24 +26,32 @@ quiet-requires c κs = search needs
 
 returns : tie.Need-returns
 returns c =
-    let s = c .before .before .before .before .before .before .before .before .before in
-    λ cfg results fixed block fs mark entry e stands.
-    let ks = s .args .kept .now in
-    let a = areasOf (s .args .words .now) results fixed block in
-    let stirred = c .before .before .before .before .before .broadcast-step .ensures cfg results fixed block e stands in
-    makes-broadcast (coreIn ks) a (memoryIn ks) (portIn ks) fs mark entry BroadcastDone stirred (rw (← (c .before .before .number .ensures), eq-eqb _ _ (c .before .if1 .taken))) (c .quiet .ensures) (broadcast-written (stirred .kept) (c .before .before .before .keep-broadcast .ensures))
+    let s = c .before .before .before .before .before .before .before .before in
+    let ks = numbersIn (s .args .unit .now) in
+    let step = c .before .before .before .before .before .broadcast-step .ensures in
+    let bit = c .before .before .before .keep-broadcast .ensures in (
+      λ block fs mark entry stands.
+          let a = areasIn (s .args .unit .now) block in
+          let stirred = step .0 block stands in
+          makes-broadcast (coreIn ks) a (memoryIn ks) (portIn ks) fs mark entry BroadcastDone stirred (numbers-kept _ block _ (numbers-only _ _ bit)) (rw (← (c .before .before .number .ensures), eq-eqb _ _ (c .before .if1 .taken))) (c .quiet .ensures) (broadcast-written (stirred .kept) (numbers-left _ _ bit)),
+      unshifted-then _ _ _ (step .1) (unshifted-numbers _ _ (numbers-only _ _ bit)),
+    )
 
 quiet-requires-2 : tie.Need-quiet-requires-2
 quiet-requires-2 c κs = search needs
 
 returns-2 : tie.Need-returns-2
 returns-2 c =
-    let s = c .before .before .before .before .before .before .before .before .before in
-    λ cfg results fixed block fs mark entry e stands.
-    let ks = s .args .kept .now in
-    let a = areasOf (s .args .words .now) results fixed block in
-    let stirred = c .before .before .before .before .before .broadcast-step .ensures cfg results fixed block e stands in
-    makes-broadcast (coreIn ks) a (memoryIn ks) (portIn ks) fs mark entry BroadcastRefused stirred (rw (← (c .before .before .number .ensures), ne-eqb _ _ (c .before .if1 .left))) (c .quiet2 .ensures) (broadcast-written (stirred .kept) (c .before .before .before .keep-broadcast .ensures))
+    let s = c .before .before .before .before .before .before .before .before in
+    let ks = numbersIn (s .args .unit .now) in
+    let step = c .before .before .before .before .before .broadcast-step .ensures in
+    let bit = c .before .before .before .keep-broadcast .ensures in (
+      λ block fs mark entry stands.
+          let a = areasIn (s .args .unit .now) block in
+          let stirred = step .0 block stands in
+          makes-broadcast (coreIn ks) a (memoryIn ks) (portIn ks) fs mark entry BroadcastRefused stirred (numbers-kept _ block _ (numbers-only _ _ bit)) (rw (← (c .before .before .number .ensures), ne-eqb _ _ (c .before .if1 .left))) (c .quiet2 .ensures) (broadcast-written (stirred .kept) (numbers-left _ _ bit)),
+      unshifted-then _ _ _ (step .1) (unshifted-numbers _ _ (numbers-only _ _ bit)),
+    )
 
 pub broadcast-spec : {M : Type 1} → statement M
 broadcast-spec =

@@ -6,6 +6,8 @@ use Rattle.model.specs.declared.Core.{Core}
 use Rattle.numbers.specs.Numbers.{coreIn, memoryIn, portIn, Written}
 use Rattle.numbers.proofs.NumbersLaws.{readable-written}
 use Rattle.numbers.proofs.PlaceLaws.{configure-written, error-written}
+use Rattle.layout.specs.Unit.{numbersIn}
+use Rattle.layout.proofs.UnitLaws.{numbers-left, numbers-only, numbers-on}
 use borrow.Author.Needs.{needs}
 use Rattle.commands.proofs.executed.Statement.{statement}
 use Rattle.commands.proofs.executed.Tie as tie
@@ -34,13 +36,18 @@ refused-requires c κs = search needs
 returns : tie.Need-returns
 returns c =
     let s = c .before .before .before .before .before .before .before .before .before .before .before in
-    let ks = s .args .kept .now in
+    let ks = numbersIn (s .args .unit .now) in
     let configure = c .before .before .before .before .before .unless .ensures ∙ ap (λ (b : Bool). cond (s .args .done .configures) false b) (c .before .before .before .before .before .before .before .before .before .configure-in .ensures) in
-    let error = c .before .before .unless2 .ensures ∙ ap (λ (b : Bool). cond (s .args .done .clears) false b) (c .before .before .before .before .before .before .before .error-in .ensures) in (
-      c .refused .ensures,
-      λ stands.
-          subst (λ (k : Core). Written k (memoryIn ks) (portIn ks) (c .before .keep-error .last .0)) (λ i. withError (withConfigure (coreIn ks) (configure i)) (error i))
-          (error-written (configure-written (readable-written ks stands) (c .before .before .before .before .keep-configure .ensures)) (c .before .keep-error .ensures)),
+    let error = c .before .before .unless2 .ensures ∙ ap (λ (b : Bool). cond (s .args .done .clears) false b) (c .before .before .before .before .before .before .before .error-in .ensures) in
+    let one = c .before .before .before .before .keep-configure .ensures in
+    let two = c .before .keep-error .ensures in (
+      (
+        c .refused .ensures,
+        λ stands.
+            subst (λ (k : Core). Written k (memoryIn ks) (portIn ks) (numbersIn (c .before .keep-error .last .0))) (λ i. withError (withConfigure (coreIn ks) (configure i)) (error i))
+            (error-written (configure-written (readable-written ks stands) (numbers-left _ _ one)) (numbers-left _ _ two)),
+      ),
+      numbers-on _ _ _ (numbers-only _ _ one) (numbers-only _ _ two),
     )
 
 pub executed-spec : {M : Type 1} → statement M

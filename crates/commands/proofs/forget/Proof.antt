@@ -2,6 +2,7 @@
 use Rattle.model.specs.Step.{restarted}
 use Rattle.numbers.proofs.NumbersLaws.{readable-written}
 use Rattle.numbers.proofs.PlaceLaws.{hold-written, write-written, configure-written, memory-written}
+use Rattle.layout.proofs.UnitLaws.{numbers-left, numbers-only, numbers-on}
 use borrow.Author.Needs.{needs}
 use Rattle.commands.proofs.forget.Statement.{statement}
 use Rattle.commands.proofs.forget.Tie as tie
@@ -20,8 +21,17 @@ keep-memory-requires c κs = search needs
 
 returns : tie.Need-returns
 unfolding restarted
-returns c = λ stands.
-    memory-written (configure-written (write-written (hold-written (readable-written _ stands) (c .before .before .before .before .before .before .keep-hold .ensures)) (c .before .before .before .before .keep-write .ensures)) (c .before .before .keep-configure .ensures)) (c .keep-memory .ensures)
+returns c =
+    let hold = c .before .before .before .before .before .before .keep-hold .ensures in
+    let write = c .before .before .before .before .keep-write .ensures in
+    let bit = c .before .before .keep-configure .ensures in
+    let memory = c .keep-memory .ensures in (
+      λ stands.
+          memory-written
+          (configure-written (write-written (hold-written (readable-written _ stands) (numbers-left _ _ (hold .0), hold .1)) (numbers-left _ _ (write .0), write .1)) (numbers-left _ _ bit))
+          (numbers-left _ _ (memory .0), memory .1),
+      numbers-on _ _ _ (numbers-only _ _ (hold .0)) (numbers-on _ _ _ (numbers-only _ _ (write .0)) (numbers-on _ _ _ (numbers-only _ _ bit) (numbers-only _ _ (memory .0)))),
+    )
 
 pub forget-spec : {M : Type 1} → statement M
 forget-spec =

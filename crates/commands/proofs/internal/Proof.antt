@@ -1,26 +1,27 @@
 -- `commands::internal` meets its contract. Assumes nothing.
-use Prim.Native.Nat.{ℕ}
-use mathlib.Core.List.{List}
 use mathlib.Core.Path.{refl, ap, subst, _∙_}
 use Rattle.model.specs.Frame.{asked}
-use Rattle.model.specs.Inputs.{resetCountOf}
 use Rattle.model.specs.Blocks.{writeOf}
 use Rattle.model.specs.Clock.{setTimeOf}
-use Rattle.model.specs.Step.{changed}
 use Rattle.model.specs.declared.Clock.{Clock}
 use Rattle.model.specs.declared.Pending.{Pending}
-use Rattle.numbers.specs.Numbers.{coreIn, memoryIn}
+use Rattle.numbers.specs.Numbers.{coreIn}
 use Rattle.numbers.proofs.NumbersLaws.{readable-written}
 use Rattle.clock.specs.declared.Set.{Set}
 use Rattle.clock.specs.Times.{setOf}
 use Rattle.blocks.specs.Answers.{WritesAs}
-use Rattle.events.specs.Kept.{areasOf, innerOf}
-use Rattle.events.specs.Changes.{alone}
-use Rattle.commands.proofs.CommandLaws.{internal-initial, internal-reset, internal-write, internal-execute, internal-time, internal-unknown, acts-initial, acts-changed, acts-written, acts-executed, acts-timed, acts-refused}
+use Rattle.blocks.proofs.MeansLaws.{executed-means}
+use Rattle.layout.specs.Unit.{configIn}
+use Rattle.layout.proofs.UnitLaws.{unit-long}
+use Rattle.events.specs.Kept.{innerBy}
+use Rattle.commands.proofs.CommandLaws.{internal-initial, internal-reset, internal-write, internal-execute, internal-time, internal-unknown, acts-initial, acts-changed, acts-written, acts-executed, acts-timed, acts-refused, unshifted, unshifted-words, unshifted-fixed, unshifted-numbers, unshifted-then, numbers-kept, numbers-by-words, numbers-by-fixed, words-left, fixed-left, reset-left}
 use Rattle.commands.proofs.TameLaws.{reset-tame}
 use borrow.Author.Needs.{needs}
 use Rattle.commands.proofs.internal.Statement.{statement}
 use Rattle.commands.proofs.internal.Tie as tie
+
+told-long-requires : tie.Need-told-long-requires
+told-long-requires c κs = search needs
 
 restart-requires : tie.Need-restart-requires
 restart-requires c κs = search needs
@@ -63,33 +64,43 @@ refused-requires c κs = search needs
 
 returns : tie.Need-returns
 returns c =
-    let s = c .before .before .before .before .before .before in
-    λ cfg results fs e stands.
-    let q = asked (s .args .frame) (s .args .body .now) in
-    let i = innerOf (coreIn (s .args .kept .now)) (areasOf (s .args .words .now) results (s .args .fixed .now) (s .args .block .now)) (memoryIn (s .args .kept .now)) fs in
-    acts-initial i q (internal-initial cfg i q (c .before .before .match .keys1)) refl (c .restart .ensures .0) (c .restart .ensures .1 stands) refl
+    let s = c .before .before .before .before .before .before .before .before .before in
+    let u = s .args .unit .now in
+    let q = asked (s .args .frame) (s .args .body .now) in (
+      λ fs stands.
+          let i = innerBy (s .args .unit .now) (s .args .block .now) fs in
+          acts-initial i q (internal-initial (configIn u) i q (c .before .before .match .keys1)) refl (c .restart .ensures .0 .0) (c .restart .ensures .0 .1 stands) (numbers-kept u _ _ (c .restart .ensures .1)),
+      unshifted-numbers u _ (c .restart .ensures .1),
+    )
 
 same-length : tie.Need-same-length
 same-length c = search needs
 
 returns-2 : tie.Need-returns-2
 returns-2 c =
-    let s = c .before .before .before .before .before .before .before .before .before .before in
-    λ cfg results fs e stands.
+    let s = c .before .before .before .before .before .before .before .before .before .before .before .before .before in
+    let u = s .args .unit .now in
     let q = asked (s .args .frame) (s .args .body .now) in
-    let i = innerOf (coreIn (s .args .kept .now)) (areasOf (s .args .words .now) results (s .args .fixed .now) (s .args .block .now)) (memoryIn (s .args .kept .now)) fs in
-    acts-changed i _ (reset-tame _ _ q) (internal-reset cfg i q (c .before .before .before .before .before .before .match .keys2) ∙ ap (λ (t : List ℕ). alone i (changed (i .core) (i .areas) (resetCountOf t (i .areas .words) q))) e) (c .before .before .before .reset-count .ensures .0) (c .before .before .before .reset-count .ensures .1) (c .scanned .ensures)
-    (readable-written _ stands) refl
+    let w = reset-left u q _ (unit-long u (c .before .before .before .before .before .before .before .before .told-long-arg2 .given .0)) (c .before .before .before .reset-count .ensures) in (
+      λ fs stands.
+          let i = innerBy (s .args .unit .now) (s .args .block .now) fs in
+          acts-changed i _ (reset-tame _ _ q) (internal-reset (configIn u) i q (c .before .before .before .before .before .before .match .keys2)) (c .before .before .before .reset-count .ensures .0) (c .scanned .ensures)
+          (rw (numbers-by-words u _ (w .0)) (readable-written _ stands)) (words-left u _ _ (w .0)),
+      unshifted-words u _ (w .0) (w .1),
+    )
 
 returns-3 : tie.Need-returns-3
 unfolding coreIn
 returns-3 c =
-    let s = c .before .before .before .before .before .before .before .before .before in
-    λ cfg results fs e stands.
+    let s = c .before .before .before .before .before .before .before .before .before .before .before .before in
+    let u = s .args .unit .now in
     let q = asked (s .args .frame) (s .args .body .now) in
-    let i = innerOf (coreIn (s .args .kept .now)) (areasOf (s .args .words .now) results (s .args .fixed .now) (s .args .block .now)) (memoryIn (s .args .kept .now)) fs in
-    let done = subst (λ (w : Pending). WritesAs (writeOf w q) (c .before .write .result)) (c .before .before .before .write-kept .ensures) (c .before .write .ensures) in
-    acts-written i _ (internal-write cfg i q (c .before .before .before .before .before .match .keys3)) done refl (c .written .ensures .0) (c .written .ensures .1 stands) refl
+    let done = subst (λ (w : Pending). WritesAs (writeOf w q) (c .before .write .result)) (c .before .before .before .write-kept .ensures) (c .before .write .ensures) in (
+      λ fs stands.
+          let i = innerBy (s .args .unit .now) (s .args .block .now) fs in
+          acts-written i _ (internal-write (configIn u) i q (c .before .before .before .before .before .match .keys3)) done refl (c .written .ensures .0 .0) (c .written .ensures .0 .1 stands) (numbers-kept u _ _ (c .written .ensures .1)),
+      unshifted-numbers u _ (c .written .ensures .1),
+    )
 
 same-length-2 : tie.Need-same-length-2
 same-length-2 c = search needs
@@ -97,36 +108,50 @@ same-length-2 c = search needs
 returns-4 : tie.Need-returns-4
 unfolding coreIn
 returns-4 c =
-    let s = c .before .before .before .before .before .before .before .before .before .before .before .before .before in
-    λ cfg results fs e stands.
+    let s = c .before .before .before .before .before .before .before .before .before .before .before .before .before .before .before .before in
+    let u = s .args .unit .now in
     let q = asked (s .args .frame) (s .args .body .now) in
-    let i = innerOf (coreIn (s .args .kept .now)) (areasOf (s .args .words .now) results (s .args .fixed .now) (s .args .block .now)) (memoryIn (s .args .kept .now)) fs in
-    let done = rw (c .before .before .before .before .before .before .before .write-kept2 .ensures) at (c .before .before .before .execute .ensures) in
-    acts-executed i _ (internal-execute cfg i q (c .before .before .before .before .before .before .before .before .before .match .keys4)) done refl (c .executed .ensures .0) (c .executed .ensures .1 stands) refl
+    let done = rw (c .before .before .before .before .before .before .before .write-kept2 .ensures) at (c .before .before .before .before .execute .ensures) in
+    let w = executed-means u _ (s .args .block .now) _ _ q _ done in
+    let same = numbers-by-fixed u _ (w .0) in
+    let after = c .executed .ensures in (
+      λ fs stands.
+          let i = innerBy (s .args .unit .now) (s .args .block .now) fs in
+          acts-executed i _ (internal-execute (configIn u) i q (c .before .before .before .before .before .before .before .before .before .match .keys4)) done refl (after .0 .0)
+          (rw same at (after .0 .1 (rw same stands))) (numbers-kept _ _ _ (after .1) ∙ fixed-left u _ _ (w .0)),
+      unshifted-then u _ _ (unshifted-fixed u _ (w .0) (w .1)) (unshifted-numbers _ _ (after .1)),
+    )
 
 returns-5 : tie.Need-returns-5
 unfolding coreIn
 returns-5 c =
-    let s = c .before .before .before .before .before .before .before .before .before in
-    λ cfg results fs e stands.
+    let s = c .before .before .before .before .before .before .before .before .before .before .before .before in
+    let u = s .args .unit .now in
     let q = asked (s .args .frame) (s .args .body .now) in
-    let i = innerOf (coreIn (s .args .kept .now)) (areasOf (s .args .words .now) results (s .args .fixed .now) (s .args .block .now)) (memoryIn (s .args .kept .now)) fs in
-    let done = c .before .set-time .ensures ∙ ap (λ (k : Clock). setOf (setTimeOf k q)) (c .before .before .before .clock-in .ensures) in
-    acts-timed i (internal-time cfg i q (c .before .before .before .before .before .match .keys5)) (ap (λ (x : Set). x .outcome) done) refl (c .timed .ensures .0) (rw done at (c .timed .ensures .1 stands)) refl
+    let done = c .before .set-time .ensures ∙ ap (λ (k : Clock). setOf (setTimeOf k q)) (c .before .before .before .clock-in .ensures) in (
+      λ fs stands.
+          let i = innerBy (s .args .unit .now) (s .args .block .now) fs in
+          acts-timed i (internal-time (configIn u) i q (c .before .before .before .before .before .match .keys5)) (ap (λ (x : Set). x .outcome) done) refl (c .timed .ensures .0 .0) (rw done at (c .timed .ensures .0 .1 stands)) (numbers-kept u _ _ (c .timed .ensures .1)),
+      unshifted-numbers u _ (c .timed .ensures .1),
+    )
 
 returns-6 : tie.Need-returns-6
 returns-6 c =
-    let s = c .before .before .before .before .before in
-    λ cfg results fs e stands.
-    let q = asked (s .args .frame) (s .args .body .now) in
-    let i = innerOf (coreIn (s .args .kept .now)) (areasOf (s .args .words .now) results (s .args .fixed .now) (s .args .block .now)) (memoryIn (s .args .kept .now)) fs in
-    acts-refused i (internal-unknown cfg i q (c .before .match .rest .0 .0 .0 .0 .1) (c .before .match .rest .0 .0 .0 .1) (c .before .match .rest .0 .0 .1) (c .before .match .rest .0 .1) (c .before .match .rest .1)) refl (c .refused .ensures)
-    (readable-written _ stands) refl
+    let s = c .before .before .before .before .before .before .before .before in
+    let u = s .args .unit .now in
+    let q = asked (s .args .frame) (s .args .body .now) in (
+      λ fs stands.
+          let i = innerBy (s .args .unit .now) (s .args .block .now) fs in
+          acts-refused i (internal-unknown (configIn u) i q (c .before .match .rest .0 .0 .0 .0 .1) (c .before .match .rest .0 .0 .0 .1) (c .before .match .rest .0 .0 .1) (c .before .match .rest .0 .1) (c .before .match .rest .1)) refl (c .refused .ensures)
+          (readable-written _ stands) refl,
+      unshifted u,
+    )
 
 pub internal-spec : {M : Type 1} → statement M
 internal-spec =
     tie.close
     (tie.spec
+    told-long-requires
     restart-requires
     reset-count-requires
     scanned-requires

@@ -2,10 +2,10 @@
 use native.Mathlib.Omega.{arith}
 use mathlib.Core.Path.{refl}
 use Rattle.model.specs.Frame.{asked}
-use Rattle.numbers.specs.Numbers.{coreIn, memoryIn}
+use Rattle.numbers.specs.Numbers.{coreIn}
 use Rattle.numbers.proofs.NumbersLaws.{readable-written}
 use Rattle.clock.specs.Times.{readOf}
-use Rattle.events.specs.Kept.{areasOf, innerOf}
+use Rattle.events.specs.Kept.{innerBy}
 use Rattle.commands.proofs.CommandLaws.{return-read, return-time, return-unknown, acts-scan, acts-refused}
 use Rattle.commands.proofs.TameLaws.{read-tame, time-tame}
 use borrow.Author.Needs.{needs}
@@ -36,9 +36,9 @@ same-length c = search needs
 returns : tie.Need-returns
 returns c =
     let s = c .before .before .before .before .before .before .before .before .before in
-    λ words results fs stands.
+    λ fs stands.
     let q = asked (s .args .frame) (s .args .body .now) in
-    let i = innerOf (coreIn (s .args .kept .now)) (areasOf words results (s .args .fixed .now) (s .args .block .now)) (memoryIn (s .args .kept .now)) fs in
+    let i = innerBy (s .args .unit .now) (s .args .block .now) fs in
     acts-scan i _ (read-tame _ _ q (omega (arith, c .before .before .before .before .before .before .shared-slice-known2 .given 3))) (return-read i q (c .before .before .before .before .before .match .keys1)) (c .before .before .before .read .ensures) (c .scanned .ensures) (readable-written _ stands) refl
 
 same-length-2 : tie.Need-same-length-2
@@ -48,17 +48,17 @@ returns-2 : tie.Need-returns-2
 unfolding readOf coreIn
 returns-2 c =
     let s = c .before .before .before .before .before .before .before .before .before .before in
-    λ words results fs stands.
+    λ fs stands.
     let q = asked (s .args .frame) (s .args .body .now) in
-    let i = innerOf (coreIn (s .args .kept .now)) (areasOf words results (s .args .fixed .now) (s .args .block .now)) (memoryIn (s .args .kept .now)) fs in
+    let i = innerBy (s .args .unit .now) (s .args .block .now) fs in
     acts-scan i _ (time-tame _ q) (return-time i q (c .before .before .before .before .before .before .match .keys2)) (rw (s .pre) at (rw (c .before .before .before .before .before .clock-in .ensures) at (c .before .before .before .read-time .ensures))) (c .scanned2 .ensures) (readable-written _ stands) refl
 
 returns-3 : tie.Need-returns-3
 returns-3 c =
     let s = c .before .before .before .before .before in
-    λ words results fs stands.
+    λ fs stands.
     let q = asked (s .args .frame) (s .args .body .now) in
-    let i = innerOf (coreIn (s .args .kept .now)) (areasOf words results (s .args .fixed .now) (s .args .block .now)) (memoryIn (s .args .kept .now)) fs in
+    let i = innerBy (s .args .unit .now) (s .args .block .now) fs in
     acts-refused i (return-unknown i q (c .before .match .rest .0 .1) (c .before .match .rest .1)) refl (c .refused .ensures) (readable-written _ stands) refl
 
 pub returned-spec : {M : Type 1} → statement M

@@ -1,6 +1,7 @@
 -- `commands::timed` meets its contract. Assumes nothing.
 use Rattle.numbers.proofs.NumbersLaws.{readable-written}
 use Rattle.numbers.proofs.PlaceLaws.{clock-written}
+use Rattle.layout.proofs.UnitLaws.{numbers-left, numbers-only}
 use borrow.Author.Needs.{needs}
 use Rattle.commands.proofs.timed.Statement.{statement}
 use Rattle.commands.proofs.timed.Tie as tie
@@ -12,7 +13,9 @@ refused-requires : tie.Need-refused-requires
 refused-requires c κs = search needs
 
 returns : tie.Need-returns
-returns c = (c .refused .ensures, λ stands. clock-written (readable-written _ stands) (c .before .keep-clock .ensures))
+returns c =
+    let kept = c .before .keep-clock .ensures in
+    ((c .refused .ensures, λ stands. clock-written (readable-written _ stands) (numbers-left _ _ (kept .0), kept .1, kept .2, kept .3)), numbers-only _ _ (kept .0))
 
 pub timed-spec : {M : Type 1} → statement M
 timed-spec =

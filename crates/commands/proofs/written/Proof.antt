@@ -1,6 +1,7 @@
 -- `commands::written` meets its contract. Assumes nothing.
 use Rattle.numbers.proofs.NumbersLaws.{readable-written}
 use Rattle.numbers.proofs.PlaceLaws.{write-written}
+use Rattle.layout.proofs.UnitLaws.{numbers-left, numbers-only}
 use borrow.Author.Needs.{needs}
 use Rattle.commands.proofs.written.Statement.{statement}
 use Rattle.commands.proofs.written.Tie as tie
@@ -12,7 +13,9 @@ refused-requires : tie.Need-refused-requires
 refused-requires c κs = search needs
 
 returns : tie.Need-returns
-returns c = (c .refused .ensures, λ stands. write-written (readable-written _ stands) (c .before .keep-write .ensures))
+returns c =
+    let kept = c .before .keep-write .ensures in
+    ((c .refused .ensures, λ stands. write-written (readable-written _ stands) (numbers-left _ _ (kept .0), kept .1)), numbers-only _ _ (kept .0))
 
 pub written-spec : {M : Type 1} → statement M
 written-spec =

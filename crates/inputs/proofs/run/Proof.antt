@@ -9,26 +9,28 @@ use Rattle.chars.proofs.PutLaws.{length-put}
 use Rattle.chars.proofs.WordLaws.{length-word}
 use Rattle.chars.proofs.GatherLaws.{up-none, up-more, gathered-none, gathered-more, gathered-same}
 use Rattle.model.specs.Inputs.{wordOf}
+use Rattle.layout.specs.Unit.{unitIn, configIn}
 use Rattle.inputs.proofs.InputLaws.{word-taken, word-left}
 use borrow.Author.Needs.{needs}
 use Rattle.inputs.proofs.run.Statement.{statement}
 use Rattle.inputs.proofs.run.Tie as tie
 
 abbrev Inv-loop : tie.InvT-loop
-Inv-loop table words from n reply₀ at to₀ k₀ reply to k =
-    (k ≤ n) × (to ≤ at + 2 * k) × (length reply ≡ length reply₀) × Gathered (wordOf table words) (upFrom from k) reply₀ at reply to
+Inv-loop unit from n reply₀ at to₀ k₀ reply to k =
+    (k ≤ n) × (to ≤ at + 2 * k) × (length reply ≡ length reply₀)
+    × Gathered (wordOf (configIn unit .inputs) (unitIn unit .words)) (upFrom from k) reply₀ at reply to
 
 abbrev μ-loop : tie.MeasureT-loop
-μ-loop table words from n reply₀ at to₀ k₀ reply to k = n - k
+μ-loop unit from n reply₀ at to₀ k₀ reply to k = n - k
 
 loop-holds : tie.Need-loop-holds Inv-loop μ-loop
 loop-holds c = (omega arith, omega arith, refl, rw up-none (gathered-none _ _ _))
 
-add-t11 : tie.Need-add-t11 Inv-loop μ-loop
-add-t11 c = search needs
+add-t10 : tie.Need-add-t10 Inv-loop μ-loop
+add-t10 c = search needs
 
-cast-t12 : tie.Need-cast-t12 Inv-loop μ-loop
-cast-t12 c = search needs
+cast-t11 : tie.Need-cast-t11 Inv-loop μ-loop
+cast-t11 c = search needs
 
 has-input-requires : tie.Need-has-input-requires Inv-loop μ-loop
 has-input-requires c κs = search needs
@@ -82,8 +84,8 @@ run-spec =
     Inv-loop
     μ-loop
     loop-holds
-    add-t11
-    cast-t12
+    add-t10
+    cast-t11
     has-input-requires
     word-of-requires
     put-word-requires

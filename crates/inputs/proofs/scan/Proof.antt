@@ -28,11 +28,11 @@ returns-2 c =
 kinds-requires : tie.Need-kinds-requires
 kinds-requires c κs = search needs
 
-sub-t12 : tie.Need-sub-t12
-sub-t12 c = search needs
+sub-t11 : tie.Need-sub-t11
+sub-t11 c = search needs
 
-cast-t18 : tie.Need-cast-t18
-cast-t18 c = search needs
+cast-t17 : tie.Need-cast-t17
+cast-t17 c = search needs
 
 refused-requires-3 : tie.Need-refused-requires-3
 refused-requires-3 c κs = search needs
@@ -59,8 +59,8 @@ scan-spec =
     refused-requires-2
     returns-2
     kinds-requires
-    sub-t12
-    cast-t18
+    sub-t11
+    cast-t17
     refused-requires-3
     same-length
     returns-3

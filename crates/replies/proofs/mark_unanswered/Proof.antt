@@ -1,5 +1,6 @@
 -- `replies::mark_unanswered` meets its contract: damage, or any other. Assumes nothing.
-use mathlib.Core.Path.{refl, sym, _∙_}
+use mathlib.Core.Path.{sym, _∙_}
+use Rattle.layout.proofs.UnitLaws.{renumbered-same}
 use borrow.Author.Needs.{needs}
 use Rattle.replies.proofs.mark_unanswered.Statement.{statement}
 use Rattle.replies.proofs.mark_unanswered.Tie as tie
@@ -14,7 +15,7 @@ returns : tie.Need-returns
 returns c = rw (sym (c .before .before .before .is-damaged .ensures) ∙ c .before .before .if1 .taken) (c .keep-mark .ensures)
 
 returns-2 : tie.Need-returns-2
-returns-2 c = rw (sym (c .before .is-damaged .ensures) ∙ c .if1 .left) refl
+returns-2 c = rw (sym (c .before .is-damaged .ensures) ∙ c .if1 .left) (renumbered-same _)
 
 pub mark-unanswered-spec : {M : Type 1} → statement M
 mark-unanswered-spec = tie.close (tie.spec is-damaged-requires keep-mark-requires returns returns-2)

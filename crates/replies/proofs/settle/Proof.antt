@@ -1,6 +1,7 @@
 -- `replies::settle` meets its contract: the write, then bit 2 and the port. Assumes nothing.
 use Rattle.model.specs.Step.{settled}
 use Rattle.numbers.proofs.NumbersLaws.{written-readable}
+use Rattle.layout.proofs.UnitLaws.{numbers-on}
 use borrow.Author.Needs.{needs}
 use Rattle.replies.proofs.settle.Statement.{statement}
 use Rattle.replies.proofs.settle.Tie as tie
@@ -13,9 +14,12 @@ settle-line-requires c κs = search needs
 
 returns : tie.Need-returns
 unfolding settled
-returns c stands =
-    let written = c .before .before .settle-write .ensures stands in
-    rw (written .means .core, written .means .memory, written .means .port) at (c .settle-line .ensures (written-readable written))
+returns c = (
+  λ stands.
+      let written = c .before .before .settle-write .ensures .0 stands in
+      rw (written .means .core, written .means .memory, written .means .port) at (c .settle-line .ensures .0 (written-readable written)),
+  numbers-on _ _ _ (c .before .before .settle-write .ensures .1) (c .settle-line .ensures .1),
+)
 
 pub settle-spec : {M : Type 1} → statement M
 settle-spec = tie.close (tie.spec settle-write-requires settle-line-requires returns)

@@ -1,5 +1,6 @@
 -- `replies::settle_line` meets its contract: a reply, or none. Assumes nothing.
 use mathlib.Core.Path.{sym, _∙_}
+use Rattle.layout.proofs.UnitLaws.{numbers-left, numbers-only, numbers-on}
 use borrow.Author.Needs.{needs}
 use Rattle.numbers.proofs.NumbersLaws.{readable-written}
 use Rattle.numbers.proofs.PlaceLaws.{broadcast-written, silence-written, mark-written}
@@ -22,19 +23,28 @@ keep-mark-requires c κs = search needs
 
 returns : tie.Need-returns
 unfolding markBy
-returns c stands =
-    let ended = silence-written (readable-written _ stands) (c .before .before .before .before .before .before .keep-silence .ensures) in
-    rw (sym (c .before .before .before .before .before .is-answered .ensures) ∙ c .before .before .before .before .if1 .taken)
-    (mark-written (broadcast-written ended (c .before .before .keep-broadcast .ensures)) (c .keep-mark .ensures))
+returns c =
+    let silence = c .before .before .before .before .before .before .keep-silence .ensures in
+    let bit = c .before .before .keep-broadcast .ensures in
+    let mark = c .keep-mark .ensures in (
+      λ stands.
+          let ended = silence-written (readable-written _ stands) (numbers-left _ _ silence) in
+          rw (sym (c .before .before .before .before .before .is-answered .ensures) ∙ c .before .before .before .before .if1 .taken)
+          (mark-written (broadcast-written ended (numbers-left _ _ bit)) (numbers-left _ _ mark)),
+      numbers-on _ _ _ (numbers-only _ _ silence) (numbers-on _ _ _ (numbers-only _ _ bit) (numbers-only _ _ mark)),
+    )
 
 mark-unanswered-requires : tie.Need-mark-unanswered-requires
 mark-unanswered-requires c κs = search needs
 
 returns-2 : tie.Need-returns-2
-returns-2 c stands =
-    let ended = silence-written (readable-written _ stands) (c .before .before .before .before .keep-silence .ensures) in
-    let silent = sym (c .before .before .before .is-answered .ensures) ∙ c .before .before .if1 .left in
-    rw silent (unanswered-written ended _ silent (c .mark-unanswered .ensures))
+returns-2 c =
+    let silence = c .before .before .before .before .keep-silence .ensures in
+    let mark = c .mark-unanswered .ensures in
+    let silent = sym (c .before .before .before .is-answered .ensures) ∙ c .before .before .if1 .left in (
+      λ stands. rw silent (unanswered-written (silence-written (readable-written _ stands) (numbers-left _ _ silence)) _ silent (numbers-left _ _ mark)),
+      numbers-on _ _ _ (numbers-only _ _ silence) (numbers-only _ _ mark),
+    )
 
 pub settle-line-spec : {M : Type 1} → statement M
 settle-line-spec =

@@ -1,5 +1,6 @@
 -- `replies::settle_write` meets its contract: a WRITE taken, no write, the frame's master's and another's. Assumes nothing.
-use mathlib.Core.Path.{refl, sym, _∙_}
+use mathlib.Core.Path.{sym, _∙_}
+use Rattle.layout.proofs.UnitLaws.{numbers-left, numbers-only, renumbered-same}
 use borrow.Author.Needs.{needs}
 use borrow.Author.Tests.{eq-eqb, ne-eqb}
 use Rattle.model.specs.Control.{isOf}
@@ -14,7 +15,7 @@ number-requires : tie.Need-number-requires
 number-requires c κs = search needs
 
 returns : tie.Need-returns
-returns c stands = rw (← (c .before .number .ensures), eq-eqb _ _ (c .if1 .taken)) (readable-written _ stands)
+returns c = (λ stands. rw (← (c .before .number .ensures), eq-eqb _ _ (c .if1 .taken)) (readable-written _ stands), renumbered-same _)
 
 master-of-requires : tie.Need-master-of-requires
 master-of-requires c κs = search needs
@@ -33,23 +34,32 @@ keep-write-requires c κs = search needs
 
 returns-2 : tie.Need-returns-2
 unfolding dropped coreIn
-returns-2 c stands =
-    let none = sym (c .before .before .write-kept .ensures) ∙ c .enum-told .given .1 in
-    rw (← (c .before .before .before .before .before .before .number .ensures), ne-eqb _ _ (c .before .before .before .before .before .if1 .left), none) (rw none at (readable-written _ stands))
+returns-2 c = (
+  λ stands.
+      let none = sym (c .before .before .write-kept .ensures) ∙ c .enum-told .given .1 in
+      rw (← (c .before .before .before .before .before .before .number .ensures), ne-eqb _ _ (c .before .before .before .before .before .if1 .left), none) (rw none at (readable-written _ stands)),
+  renumbered-same _,
+)
 
 returns-3 : tie.Need-returns-3
 unfolding dropped isOf coreIn
-returns-3 c stands =
-    let waits = sym (c .before .before .before .before .before .before .before .before .before .write-kept .ensures) ∙ c .before .before .before .before .before .before .before .pending .given .1 in
-    rw (← (c .before .before .before .before .before .before .before .before .before .before .before .before .before .number .ensures), ne-eqb _ _ (c .before .before .before .before .before .before .before .before .before .before .before .before .if1 .left), waits, ← (c .before .before .before .before .before .before .before .before .before .before .before .master-of .ensures), eq-eqb _ _ (c .before .before .if2 .taken))
-    (write-written (readable-written _ stands) (c .keep-write .ensures))
+returns-3 c = (
+  λ stands.
+      let waits = sym (c .before .before .before .before .before .before .before .before .before .write-kept .ensures) ∙ c .before .before .before .before .before .before .before .pending .given .1 in
+      rw (← (c .before .before .before .before .before .before .before .before .before .before .before .before .before .number .ensures), ne-eqb _ _ (c .before .before .before .before .before .before .before .before .before .before .before .before .if1 .left), waits, ← (c .before .before .before .before .before .before .before .before .before .before .before .master-of .ensures), eq-eqb _ _ (c .before .before .if2 .taken))
+      (write-written (readable-written _ stands) (numbers-left _ _ (c .keep-write .ensures .0), c .keep-write .ensures .1)),
+  numbers-only _ _ (c .keep-write .ensures .0),
+)
 
 returns-4 : tie.Need-returns-4
 unfolding dropped isOf coreIn
-returns-4 c stands =
-    let waits = sym (c .before .before .before .before .before .before .before .write-kept .ensures) ∙ c .before .before .before .before .before .pending .given .1 in
-    rw (← (c .before .before .before .before .before .before .before .before .before .before .before .number .ensures), ne-eqb _ _ (c .before .before .before .before .before .before .before .before .before .before .if1 .left), waits, ← (c .before .before .before .before .before .before .before .before .before .master-of .ensures), ne-eqb _ _ (c .if2 .left))
-    (rw waits at (readable-written _ stands))
+returns-4 c = (
+  λ stands.
+      let waits = sym (c .before .before .before .before .before .before .before .write-kept .ensures) ∙ c .before .before .before .before .before .pending .given .1 in
+      rw (← (c .before .before .before .before .before .before .before .before .before .before .before .number .ensures), ne-eqb _ _ (c .before .before .before .before .before .before .before .before .before .before .if1 .left), waits, ← (c .before .before .before .before .before .before .before .before .before .master-of .ensures), ne-eqb _ _ (c .if2 .left))
+      (rw waits at (readable-written _ stands)),
+  renumbered-same _,
+)
 
 pub settle-write-spec : {M : Type 1} → statement M
 settle-write-spec =

@@ -4,20 +4,23 @@ use Rattle.model.specs.Frame.{asked}
 use Rattle.model.specs.Control.{breaks}
 use Rattle.model.specs.Step.{brokenOff}
 use Rattle.model.specs.declared.Hold.{Hold}
-use Rattle.numbers.specs.Numbers.{coreIn, memoryIn}
+use Rattle.numbers.specs.Numbers.{coreIn}
 use Rattle.numbers.proofs.NumbersLaws.{readable-written}
 use Rattle.numbers.proofs.PlaceLaws.{hold-written}
-use Rattle.judge.specs.Judged.{configOf}
-use Rattle.history.specs.Layout.{filesIn}
+use Rattle.layout.specs.Unit.{configIn, numbersIn}
+use Rattle.layout.proofs.UnitLaws.{unit-long, numbers-left, numbers-only}
 use Rattle.points.proofs.AnswerLaws.{in-room, fills-as}
-use Rattle.events.specs.Kept.{areasOf, innerOf}
-use Rattle.commands.proofs.CommandLaws.{internal-stays, return-stays, acts-scan, acts-refused}
-use Rattle.serving.proofs.StepLaws.{step-broken, step-told, step-inputs, step-calculations, step-tables, step-control, step-internal, step-return, step-unknown, acts-control, run-leaves, acts-broken, acted-still, alone-stays}
+use Rattle.events.specs.Kept.{innerIn}
+use Rattle.commands.proofs.CommandLaws.{internal-stays, return-stays, acts-scan, acts-refused, unshifted-numbers, numbers-kept}
+use Rattle.serving.proofs.StepLaws.{step-broken, step-told, step-inputs, step-calculations, step-tables, step-control, step-internal, step-return, step-unknown, acts-control, run-leaves, acts-broken, acted-still, alone-stays, steady-same}
 use Rattle.serving.proofs.TameLaws.{inputs-tame, calculations-tame, tables-tame, control-tame}
-use Rattle.serving.proofs.TellingLaws.{acted-told}
+use Rattle.serving.proofs.TellingLaws.{acted-told, told-steady}
 use borrow.Author.Needs.{needs}
 use Rattle.serving.proofs.act.Statement.{statement}
 use Rattle.serving.proofs.act.Tie as tie
+
+told-long-requires : tie.Need-told-long-requires
+told-long-requires c κs = search needs
 
 hold-kept-requires : tie.Need-hold-kept-requires
 hold-kept-requires c κs = search needs
@@ -34,16 +37,20 @@ refused-requires c κs = search needs
 returns : tie.Need-returns
 unfolding brokenOff coreIn
 returns c =
-    let s = c .before .before .before .before .before .before .before .before .before .before in
-    let ks = s .args .kept .now in
-    λ unit long y stands.
+    let s = c .before .before .before .before .before .before .before .before .before .before .before .before .before .before in
+    let u = s .args .unit .now in
+    let ks = numbersIn u in
+    let i = innerIn u (s .args .block .now) (s .args .records .now) in
     let q = asked (s .args .frame) (s .args .body .now) in
     let b = sym (c .before .before .before .before .breaks-off .ensures ∙ ap (λ (h : Hold). breaks h q) (c .before .before .before .before .before .hold-kept .ensures)) ∙ c .before .before .before .if1 .taken in
-    let cfg = configOf unit long (s .args .inputs .now) (s .args .outputs .now) (s .args .calculations .now) (s .args .files .now) (s .args .values .now) in
-    let fs = filesIn (s .args .values .now) (s .args .area .now) (s .args .counts .now) in
-    let i = innerOf (coreIn ks) (areasOf (s .args .words .now) (s .args .results .now) (s .args .fixed .now) (s .args .block .now)) (memoryIn ks) fs in
-    let z = step-broken cfg i q b in
-    acted-still (alone-stays i _ z) (acts-broken i z refl (c .refused .ensures) (hold-written (readable-written ks stands) (c .before .keep-hold .ensures)) refl)
+    let z = step-broken (configIn u) i q b in
+    let held = c .before .keep-hold .ensures in
+    let only = numbers-only _ _ (held .0) in (
+      λ y stands.
+          rw (unshifted-numbers u _ only .counts)
+          (acted-still (alone-stays i _ z) (acts-broken i z refl (c .refused .ensures) (hold-written (readable-written ks stands) (numbers-left _ _ (held .0), held .1)) (numbers-kept u _ _ only))),
+      unshifted-numbers u _ only .steady,
+    )
 
 scan-requires : tie.Need-scan-requires
 scan-requires c κs = search needs
@@ -93,16 +100,17 @@ same-length c = search needs
 returns-2 : tie.Need-returns-2
 unfolding coreIn
 returns-2 c =
-    let s = c .before .before .before .before .before .before .before .before .before .before .before .before .before .before in
-    let ks = s .args .kept .now in
-    λ unit long y stands.
+    let s = c .before .before .before .before .before .before .before .before .before .before .before .before .before .before .before .before .before .before in
+    let u = s .args .unit .now in
+    let ks = numbersIn u in
+    let i = innerIn u (s .args .block .now) (s .args .records .now) in
     let q = asked (s .args .frame) (s .args .body .now) in
     let b = sym (c .before .before .before .before .before .before .before .before .breaks-off .ensures ∙ ap (λ (h : Hold). breaks h q) (c .before .before .before .before .before .before .before .before .before .hold-kept .ensures)) ∙ c .before .before .before .before .before .before .before .if1 .left in
-    let cfg = configOf unit long (s .args .inputs .now) (s .args .outputs .now) (s .args .calculations .now) (s .args .files .now) (s .args .values .now) in
-    let fs = filesIn (s .args .values .now) (s .args .area .now) (s .args .counts .now) in
-    let i = innerOf (coreIn ks) (areasOf (s .args .words .now) (s .args .results .now) (s .args .fixed .now) (s .args .block .now)) (memoryIn ks) fs in
-    let z = step-inputs cfg i q b (c .before .before .before .before .before .before .match .keys1) in
-    acted-still (alone-stays i _ z) (acts-scan i _ (inputs-tame _ _ q) z (fills-as (sym (in-room _ _ (s .pre .0))) (c .before .before .before .scan .ensures)) (c .scanned .ensures) (readable-written ks stands) refl)
+    let z = step-inputs (configIn u) i q b (c .before .before .before .before .before .before .match .keys1) in (
+      λ y stands.
+          acted-still (alone-stays i _ z) (acts-scan i _ (inputs-tame _ _ q) z (fills-as (sym (in-room _ _ (s .pre .0))) (c .before .before .before .scan .ensures)) (c .scanned .ensures) (readable-written ks stands) refl),
+      steady-same u,
+    )
 
 same-length-2 : tie.Need-same-length-2
 same-length-2 c = search needs
@@ -110,125 +118,140 @@ same-length-2 c = search needs
 returns-3 : tie.Need-returns-3
 unfolding coreIn
 returns-3 c =
-    let s = c .before .before .before .before .before .before .before .before .before .before .before .before .before in
-    let ks = s .args .kept .now in
-    λ unit long y stands.
+    let s = c .before .before .before .before .before .before .before .before .before .before .before .before .before .before .before .before .before .before in
+    let u = s .args .unit .now in
+    let ks = numbersIn u in
+    let i = innerIn u (s .args .block .now) (s .args .records .now) in
     let q = asked (s .args .frame) (s .args .body .now) in
-    let b = sym (c .before .before .before .before .before .before .before .breaks-off .ensures ∙ ap (λ (h : Hold). breaks h q) (c .before .before .before .before .before .before .before .before .hold-kept .ensures)) ∙ c .before .before .before .before .before .before .if1 .left in
-    let cfg = configOf unit long (s .args .inputs .now) (s .args .outputs .now) (s .args .calculations .now) (s .args .files .now) (s .args .values .now) in
-    let fs = filesIn (s .args .values .now) (s .args .area .now) (s .args .counts .now) in
-    let i = innerOf (coreIn ks) (areasOf (s .args .words .now) (s .args .results .now) (s .args .fixed .now) (s .args .block .now)) (memoryIn ks) fs in
-    let z = step-calculations cfg i q b (c .before .before .before .before .before .match .keys2) in
-    acted-still (alone-stays i _ z) (acts-scan i _ (calculations-tame _ _ q) z (fills-as (sym (in-room _ _ (s .pre .0))) (c .before .before .before .scan2 .ensures)) (c .scanned2 .ensures) (readable-written ks stands) refl)
+    let b = sym (c .before .before .before .before .before .before .before .before .breaks-off .ensures ∙ ap (λ (h : Hold). breaks h q) (c .before .before .before .before .before .before .before .before .before .hold-kept .ensures)) ∙ c .before .before .before .before .before .before .before .if1 .left in
+    let z = step-calculations (configIn u) i q b (c .before .before .before .before .before .before .match .keys2) in (
+      λ y stands.
+          acted-still (alone-stays i _ z) (acts-scan i _ (calculations-tame _ _ q) z (fills-as (sym (in-room _ _ (s .pre .0))) (c .before .before .before .scan2 .ensures)) (c .scanned2 .ensures) (readable-written ks stands) refl),
+      steady-same u,
+    )
 
 same-length-3 : tie.Need-same-length-3
 same-length-3 c = search needs
 
-returns-4 : tie.Need-returns-4
-unfolding coreIn
-returns-4 c =
-    let s = c .before .before .before .before .before .before .before .before .before .before .before .before .before .before .before .before in
-    let ks = s .args .kept .now in
-    λ unit long y stands.
-    let q = asked (s .args .frame) (s .args .body .now) in
-    let b = sym (c .before .before .before .before .before .before .before .before .before .before .breaks-off .ensures ∙ ap (λ (h : Hold). breaks h q) (c .before .before .before .before .before .before .before .before .before .before .before .hold-kept .ensures)) ∙ c .before .before .before .before .before .before .before .before .before .if1 .left in
-    let cfg = configOf unit long (s .args .inputs .now) (s .args .outputs .now) (s .args .calculations .now) (s .args .files .now) (s .args .values .now) in
-    let fs = filesIn (s .args .values .now) (s .args .area .now) (s .args .counts .now) in
-    let i = innerOf (coreIn ks) (areasOf (s .args .words .now) (s .args .results .now) (s .args .fixed .now) (s .args .block .now)) (memoryIn ks) fs in
-    acted-told cfg _ _ _ ks q _ y stands (c .before .before .before .serve .ensures) (step-told cfg i q b (c .before .before .before .before .before .before .before .before .match .keys3)) (c .scanned3 .ensures) refl
-
 same-length-4 : tie.Need-same-length-4
 same-length-4 c = search needs
 
-returns-5 : tie.Need-returns-5
+returns-4 : tie.Need-returns-4
 unfolding coreIn
-returns-5 c =
-    let s = c .before .before .before .before .before .before .before .before .before .before .before .before .before .before .before in
-    let ks = s .args .kept .now in
-    λ unit long y stands.
+returns-4 c =
+    let s = c .before .before .before .before .before .before .before .before .before .before .before .before .before .before .before .before .before .before .before .before .before in
+    let u = s .args .unit .now in
+    let ks = numbersIn u in
+    let i = innerIn u (s .args .block .now) (s .args .records .now) in
     let q = asked (s .args .frame) (s .args .body .now) in
-    let b = sym (c .before .before .before .before .before .before .before .before .before .breaks-off .ensures ∙ ap (λ (h : Hold). breaks h q) (c .before .before .before .before .before .before .before .before .before .before .hold-kept .ensures)) ∙ c .before .before .before .before .before .before .before .before .if1 .left in
-    let cfg = configOf unit long (s .args .inputs .now) (s .args .outputs .now) (s .args .calculations .now) (s .args .files .now) (s .args .values .now) in
-    let fs = filesIn (s .args .values .now) (s .args .area .now) (s .args .counts .now) in
-    let i = innerOf (coreIn ks) (areasOf (s .args .words .now) (s .args .results .now) (s .args .fixed .now) (s .args .block .now)) (memoryIn ks) fs in
-    let z = step-tables cfg i q b (c .before .before .before .before .before .before .before .match .keys4) in
-    acted-still (alone-stays i _ z) (acts-scan i _ (tables-tame _ _ _ q) z (fills-as (sym (in-room _ _ (s .pre .0))) (c .before .before .before .scan3 .ensures)) (c .scanned4 .ensures) (readable-written ks stands) refl)
+    let b = sym (c .before .before .before .before .before .before .before .before .before .before .before .breaks-off .ensures ∙ ap (λ (h : Hold). breaks h q) (c .before .before .before .before .before .before .before .before .before .before .before .before .hold-kept .ensures)) ∙ c .before .before .before .before .before .before .before .before .before .before .if1 .left in
+    let told = c .before .before .before .before .before .serve .ensures in (
+      λ y stands.
+          acted-told u _ _ q _ _ (unit-long u (c .before .before .before .before .before .before .before .before .before .before .before .before .before .before .before .told-long-arg2 .given .0)) y stands told (step-told (configIn u) i q b (c .before .before .before .before .before .before .before .before .before .match .keys3)) (c .scanned3 .ensures),
+      told-steady u _ told,
+    )
 
 same-length-5 : tie.Need-same-length-5
 same-length-5 c = search needs
 
-returns-6 : tie.Need-returns-6
+returns-5 : tie.Need-returns-5
 unfolding coreIn
-returns-6 c =
-    let s = c .before .before .before .before .before .before .before .before .before .before .before .before .before .before .before .before in
-    let ks = s .args .kept .now in
-    λ unit long y stands.
+returns-5 c =
+    let s = c .before .before .before .before .before .before .before .before .before .before .before .before .before .before .before .before .before .before in
+    let u = s .args .unit .now in
+    let ks = numbersIn u in
+    let i = innerIn u (s .args .block .now) (s .args .records .now) in
     let q = asked (s .args .frame) (s .args .body .now) in
-    let b = sym (c .before .before .before .before .before .before .before .before .before .before .breaks-off .ensures ∙ ap (λ (h : Hold). breaks h q) (c .before .before .before .before .before .before .before .before .before .before .before .hold-kept .ensures)) ∙ c .before .before .before .before .before .before .before .before .before .if1 .left in
-    let cfg = configOf unit long (s .args .inputs .now) (s .args .outputs .now) (s .args .calculations .now) (s .args .files .now) (s .args .values .now) in
-    let fs = filesIn (s .args .values .now) (s .args .area .now) (s .args .counts .now) in
-    let i = innerOf (coreIn ks) (areasOf (s .args .words .now) (s .args .results .now) (s .args .fixed .now) (s .args .block .now)) (memoryIn ks) fs in
-    let z = step-control cfg i q b (c .before .before .before .before .before .before .before .before .match .keys5) in
-    let ran = rw (c .before .before .before .before .before .before .hold-kept2 .ensures) at (c .before .before .before .before .control .ensures) in
-    acted-still (alone-stays i _ z) (acts-control i _ (control-tame _ _ q) z ran (c .controlled .ensures .0) (c .controlled .ensures .1 stands (run-leaves (i .core) (i .areas) _ _ q ran)) refl)
+    let b = sym (c .before .before .before .before .before .before .before .before .breaks-off .ensures ∙ ap (λ (h : Hold). breaks h q) (c .before .before .before .before .before .before .before .before .before .hold-kept .ensures)) ∙ c .before .before .before .before .before .before .before .if1 .left in
+    let z = step-tables (configIn u) i q b (c .before .before .before .before .before .before .match .keys4) in (
+      λ y stands.
+          acted-still (alone-stays i _ z) (acts-scan i _ (tables-tame _ _ _ q) z (fills-as (sym (in-room _ _ (s .pre .0))) (c .before .before .before .scan3 .ensures)) (c .scanned4 .ensures) (readable-written ks stands) refl),
+      steady-same u,
+    )
 
 same-length-6 : tie.Need-same-length-6
 same-length-6 c = search needs
 
+returns-6 : tie.Need-returns-6
+unfolding coreIn
+returns-6 c =
+    let s = c .before .before .before .before .before .before .before .before .before .before .before .before .before .before .before .before .before .before .before .before .before in
+    let u = s .args .unit .now in
+    let ks = numbersIn u in
+    let i = innerIn u (s .args .block .now) (s .args .records .now) in
+    let q = asked (s .args .frame) (s .args .body .now) in
+    let b = sym (c .before .before .before .before .before .before .before .before .before .before .before .breaks-off .ensures ∙ ap (λ (h : Hold). breaks h q) (c .before .before .before .before .before .before .before .before .before .before .before .before .hold-kept .ensures)) ∙ c .before .before .before .before .before .before .before .before .before .before .if1 .left in
+    let z = step-control (configIn u) i q b (c .before .before .before .before .before .before .before .before .before .match .keys5) in
+    let ran = rw (c .before .before .before .before .before .before .before .hold-kept2 .ensures) at (c .before .before .before .before .control .ensures) in
+    let held = c .controlled .ensures in (
+      λ y stands.
+          rw (unshifted-numbers u _ (held .1) .counts)
+          (acted-still (alone-stays i _ z) (acts-control i _ (control-tame _ _ q) z ran (held .0 .0) (held .0 .1 stands (run-leaves (i .core) (i .areas) _ _ q ran)) (numbers-kept u _ _ (held .1)))),
+      unshifted-numbers u _ (held .1) .steady,
+    )
+
 same-length-7 : tie.Need-same-length-7
 same-length-7 c = search needs
-
-returns-7 : tie.Need-returns-7
-unfolding coreIn
-returns-7 c =
-    let s = c .before .before .before .before .before .before .before .before .before .before .before .before .before .before .before .before .before .before in
-    let ks = s .args .kept .now in
-    λ unit long y stands.
-    let q = asked (s .args .frame) (s .args .body .now) in
-    let b = sym (c .before .before .before .before .before .before .before .before .before .before .before .before .breaks-off .ensures ∙ ap (λ (h : Hold). breaks h q) (c .before .before .before .before .before .before .before .before .before .before .before .before .before .hold-kept .ensures)) ∙ c .before .before .before .before .before .before .before .before .before .before .before .if1 .left in
-    let cfg = configOf unit long (s .args .inputs .now) (s .args .outputs .now) (s .args .calculations .now) (s .args .files .now) (s .args .values .now) in
-    let fs = filesIn (s .args .values .now) (s .args .area .now) (s .args .counts .now) in
-    let i = innerOf (coreIn ks) (areasOf (s .args .words .now) (s .args .results .now) (s .args .fixed .now) (s .args .block .now)) (memoryIn ks) fs in
-    rw (step-internal cfg i q b (c .before .before .before .before .before .before .before .before .before .before .match .keys6)) (acted-still (internal-stays cfg i q) (c .before .before .before .before .internal .ensures cfg (s .args .results .now) fs refl stands))
 
 same-length-8 : tie.Need-same-length-8
 same-length-8 c = search needs
 
+returns-7 : tie.Need-returns-7
+unfolding coreIn
+returns-7 c =
+    let s = c .before .before .before .before .before .before .before .before .before .before .before .before .before .before .before .before .before .before .before .before in
+    let u = s .args .unit .now in
+    let ks = numbersIn u in
+    let i = innerIn u (s .args .block .now) (s .args .records .now) in
+    let q = asked (s .args .frame) (s .args .body .now) in
+    let b = sym (c .before .before .before .before .before .before .before .before .before .before .breaks-off .ensures ∙ ap (λ (h : Hold). breaks h q) (c .before .before .before .before .before .before .before .before .before .before .before .hold-kept .ensures)) ∙ c .before .before .before .before .before .before .before .before .before .if1 .left in
+    let done = c .before .before .before .before .internal .ensures in (
+      λ y stands.
+          rw (step-internal (configIn u) i q b (c .before .before .before .before .before .before .before .before .match .keys6), done .1 .counts) (acted-still (internal-stays (configIn u) i q) (done .0 (i .history .files) stands)),
+      done .1 .steady,
+    )
+
 same-length-9 : tie.Need-same-length-9
 same-length-9 c = search needs
+
+same-length-10 : tie.Need-same-length-10
+same-length-10 c = search needs
 
 returns-8 : tie.Need-returns-8
 unfolding coreIn
 returns-8 c =
-    let s = c .before .before .before .before .before .before .before .before .before .before .before .before .before .before .before in
-    let ks = s .args .kept .now in
-    λ unit long y stands.
+    let s = c .before .before .before .before .before .before .before .before .before .before .before .before .before .before .before .before .before .before in
+    let u = s .args .unit .now in
+    let ks = numbersIn u in
+    let i = innerIn u (s .args .block .now) (s .args .records .now) in
     let q = asked (s .args .frame) (s .args .body .now) in
-    let b = sym (c .before .before .before .before .before .before .before .before .before .breaks-off .ensures ∙ ap (λ (h : Hold). breaks h q) (c .before .before .before .before .before .before .before .before .before .before .hold-kept .ensures)) ∙ c .before .before .before .before .before .before .before .before .if1 .left in
-    let cfg = configOf unit long (s .args .inputs .now) (s .args .outputs .now) (s .args .calculations .now) (s .args .files .now) (s .args .values .now) in
-    let fs = filesIn (s .args .values .now) (s .args .area .now) (s .args .counts .now) in
-    let i = innerOf (coreIn ks) (areasOf (s .args .words .now) (s .args .results .now) (s .args .fixed .now) (s .args .block .now)) (memoryIn ks) fs in
-    rw (step-return cfg i q b (c .before .before .before .before .before .before .before .match .keys7)) (acted-still (return-stays i q) (c .before .before .returned .ensures (s .args .words .now) (s .args .results .now) fs stands))
+    let b = sym (c .before .before .before .before .before .before .before .before .breaks-off .ensures ∙ ap (λ (h : Hold). breaks h q) (c .before .before .before .before .before .before .before .before .before .hold-kept .ensures)) ∙ c .before .before .before .before .before .before .before .if1 .left in (
+      λ y stands.
+          rw (step-return (configIn u) i q b (c .before .before .before .before .before .before .match .keys7)) (acted-still (return-stays i q) (c .before .before .returned .ensures (i .history .files) stands)),
+      steady-same u,
+    )
 
 returns-9 : tie.Need-returns-9
 unfolding coreIn
 returns-9 c =
-    let s = c .before .before .before .before .before .before .before .before .before in
-    let ks = s .args .kept .now in
-    λ unit long y stands.
+    let s = c .before .before .before .before .before .before .before .before .before .before .before .before .before in
+    let u = s .args .unit .now in
+    let ks = numbersIn u in
+    let i = innerIn u (s .args .block .now) (s .args .records .now) in
     let q = asked (s .args .frame) (s .args .body .now) in
     let b = sym (c .before .before .before .breaks-off .ensures ∙ ap (λ (h : Hold). breaks h q) (c .before .before .before .before .hold-kept .ensures)) ∙ c .before .before .if1 .left in
-    let cfg = configOf unit long (s .args .inputs .now) (s .args .outputs .now) (s .args .calculations .now) (s .args .files .now) (s .args .values .now) in
-    let fs = filesIn (s .args .values .now) (s .args .area .now) (s .args .counts .now) in
-    let i = innerOf (coreIn ks) (areasOf (s .args .words .now) (s .args .results .now) (s .args .fixed .now) (s .args .block .now)) (memoryIn ks) fs in
     let m = c .before .match .rest in
-    let z = step-unknown cfg i q b (m .0 .0 .0 .0 .0 .0 .1) (m .0 .0 .0 .0 .0 .1) (m .0 .0 .0 .0 .1) (m .0 .0 .0 .1) (m .0 .0 .1) (m .0 .1) (m .1) in
-    acted-still (alone-stays i _ z) (acts-refused i z refl (c .refused2 .ensures) (readable-written ks stands) refl)
+    let z = step-unknown (configIn u) i q b (m .0 .0 .0 .0 .0 .0 .1) (m .0 .0 .0 .0 .0 .1) (m .0 .0 .0 .0 .1) (m .0 .0 .0 .1) (m .0 .0 .1) (m .0 .1) (m .1) in (
+      λ y stands.
+          acted-still (alone-stays i _ z) (acts-refused i z refl (c .refused2 .ensures) (readable-written ks stands) refl),
+      steady-same u,
+    )
 
 pub act-spec : {M : Type 1} → statement M
 act-spec =
     tie.close
     (tie.spec
+    told-long-requires
     hold-kept-requires
     breaks-off-requires
     keep-hold-requires
@@ -253,15 +276,16 @@ act-spec =
     same-length-2
     returns-3
     same-length-3
-    returns-4
     same-length-4
-    returns-5
+    returns-4
     same-length-5
-    returns-6
+    returns-5
     same-length-6
+    returns-6
     same-length-7
-    returns-7
     same-length-8
+    returns-7
     same-length-9
+    same-length-10
     returns-8
     returns-9)

@@ -2,6 +2,7 @@
 use mathlib.Core.Path.{refl, sym, _∙_}
 use Rattle.numbers.proofs.NumbersLaws.{readable-written}
 use Rattle.numbers.proofs.PlaceLaws.{hold-written}
+use Rattle.layout.proofs.UnitLaws.{renumbered-same, numbers-left, numbers-only}
 use borrow.Author.Needs.{needs}
 use Rattle.serving.proofs.controlled.Statement.{statement}
 use Rattle.serving.proofs.controlled.Tie as tie
@@ -10,13 +11,15 @@ left-requires : tie.Need-left-requires
 left-requires c κs = search needs
 
 returns : tie.Need-returns
-returns c = (refl, λ stands same. rw (same (sym (c .before .left .ensures) ∙ c .if1 .taken)) (readable-written _ stands))
+returns c = ((refl, λ stands same. rw (same (sym (c .before .left .ensures) ∙ c .if1 .taken)) (readable-written _ stands)), renumbered-same _)
 
 keep-hold-requires : tie.Need-keep-hold-requires
 keep-hold-requires c κs = search needs
 
 returns-2 : tie.Need-returns-2
-returns-2 c = (refl, λ stands same. hold-written (readable-written _ stands) (c .keep-hold .ensures))
+returns-2 c =
+    let held = c .keep-hold .ensures in
+    ((refl, λ stands same. hold-written (readable-written _ stands) (numbers-left _ _ (held .0), held .1)), numbers-only _ _ (held .0))
 
 pub controlled-spec : {M : Type 1} → statement M
 controlled-spec = tie.close (tie.spec left-requires returns keep-hold-requires returns-2)

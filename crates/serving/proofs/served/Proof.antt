@@ -2,12 +2,12 @@
 use mathlib.Core.Path.{refl, _∙_}
 use Rattle.model.specs.Frame.{asked}
 use Rattle.model.specs.Step.{settled}
-use Rattle.numbers.specs.Numbers.{coreIn, memoryIn}
 use Rattle.numbers.proofs.NumbersLaws.{written-readable}
-use Rattle.judge.specs.Judged.{configOf}
-use Rattle.history.specs.Layout.{filesIn}
-use Rattle.events.specs.Kept.{areasOf, innerOf}
+use Rattle.layout.specs.Unit.{configIn, numbersIn}
+use Rattle.events.specs.Kept.{innerIn}
+use Rattle.commands.proofs.CommandLaws.{unshifted-numbers}
 use Rattle.replies.proofs.ReplyLaws.{status-numbered}
+use Rattle.serving.proofs.StepLaws.{steady-then, makes-renumbered}
 use Rattle.serving.proofs.ServedLaws.{makes-served}
 use borrow.Author.Needs.{needs}
 use Rattle.serving.proofs.served.Statement.{statement}
@@ -34,19 +34,26 @@ same-length c = search needs
 same-length-2 : tie.Need-same-length-2
 same-length-2 c = search needs
 
+same-length-3 : tie.Need-same-length-3
+same-length-3 c = search needs
+
 returns : tie.Need-returns
 unfolding settled
 returns c =
     let s = c .before .before .before .before .before .before .before .before .before .before .before .before .before .before .before .before .before .before .before .before .before .before .before .before .before in
-    let ks = s .args .kept .now in
-    λ unit long y stands.
+    let u = s .args .unit .now in
+    let ks = numbersIn u in
+    let i = innerIn u (s .args .block .now) (s .args .records .now) in
     let q = asked (s .args .frame) (s .args .body .now) in
-    let cfg = configOf unit long (s .args .inputs .now) (s .args .outputs .now) (s .args .calculations .now) (s .args .files .now) (s .args .values .now) in
-    let fs = filesIn (s .args .values .now) (s .args .area .now) (s .args .counts .now) in
-    let i = innerOf (coreIn ks) (areasOf (s .args .words .now) (s .args .results .now) (s .args .fixed .now) (s .args .block .now)) (memoryIn ks) fs in
-    let a = c .before .before .before .before .before .before .before .before .before .before .act .ensures unit long y stands in
-    let f = rw (c .before .before .before .before .before .before .before .before .before .before .before .before .before .before .before .before .before .before .before .before .status-in .ensures, c .before .before .before .before .before .before .before .before .before .before .before .before .before .before .before .before .before .before .port-status-in .ensures ∙ status-numbered ks stands) at (c .before .before .before .before .finish .ensures) in
-    record { makes = makes-served cfg i q _ (s .pre .0) (a .acts) f (c .settle .ensures (written-readable (a .acts .kept))) refl; changed = a .changed }
+    let done = c .before .before .before .before .before .before .before .before .before .before .before .before .act .ensures in
+    let ends = c .settle .ensures in (
+      λ y stands.
+          let a = done .0 y stands in
+          let f = rw (c .before .before .before .before .before .before .before .before .before .before .before .before .before .before .before .before .before .before .before .status-in .ensures, c .before .before .before .before .before .before .before .before .before .before .before .before .before .before .before .before .before .port-status-in .ensures ∙ status-numbered ks stands) at (c .before .before .before .before .finish .ensures) in
+          makes-renumbered _ _ _ _ (ends .1)
+          (record { makes = makes-served (configIn u) i q _ (s .pre .0) (a .acts) f (ends .0 (written-readable (a .acts .kept))) refl; changed = a .changed }),
+      steady-then _ _ _ (done .1) (unshifted-numbers _ _ (ends .1) .steady),
+    )
 
 pub served-spec : {M : Type 1} → statement M
 served-spec =
@@ -59,4 +66,5 @@ served-spec =
     settle-requires
     same-length
     same-length-2
+    same-length-3
     returns)

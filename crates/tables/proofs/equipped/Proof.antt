@@ -2,16 +2,17 @@
 use mathlib.Core.Path.{sym, _∙_}
 use Prim.Native.Nat.{_-_}
 use Rattle.model.specs.Config.{has}
+use Rattle.layout.specs.Unit.{configIn}
 use Rattle.tables.proofs.TableLaws.{Judged, judged-start, judged-more, judged-not, judged-end}
 use borrow.Author.Needs.{needs}
 use Rattle.tables.proofs.equipped.Statement.{statement}
 use Rattle.tables.proofs.equipped.Tie as tie
 
 abbrev Inv-loop : tie.InvT-loop
-Inv-loop table area from n i₀ i = Judged (has table) area from n i
+Inv-loop unit area from n i₀ i = Judged (has (configIn unit .inputs)) area from n i
 
 abbrev μ-loop : tie.MeasureT-loop
-μ-loop table area from n i₀ i = n - i
+μ-loop unit area from n i₀ i = n - i
 
 loop-holds : tie.Need-loop-holds Inv-loop μ-loop
 loop-holds c = judged-start _ _ _ _

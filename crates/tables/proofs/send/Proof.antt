@@ -42,11 +42,11 @@ write-requires-2 c κs = search needs
 write-requires-3 : tie.Need-write-requires-3
 write-requires-3 c κs = search needs
 
-sub-t16 : tie.Need-sub-t16
-sub-t16 c = search needs
+sub-t15 : tie.Need-sub-t15
+sub-t15 c = search needs
 
-cast-t27 : tie.Need-cast-t27
-cast-t27 c = search needs
+cast-t26 : tie.Need-cast-t26
+cast-t26 c = search needs
 
 refused-requires-2 : tie.Need-refused-requires-2
 refused-requires-2 c κs = search needs
@@ -79,8 +79,8 @@ send-spec =
     write-requires
     write-requires-2
     write-requires-3
-    sub-t16
-    cast-t27
+    sub-t15
+    cast-t26
     refused-requires-2
     same-length
     returns-2

@@ -9,17 +9,18 @@ use Rattle.chars.proofs.PutLaws.{part-none, part-more, length-put}
 use Rattle.chars.proofs.WordLaws.{length-word}
 use Rattle.chars.proofs.GatherLaws.{gathered-none, gathered-more}
 use Rattle.model.specs.Tables.{wordIn}
+use Rattle.layout.specs.Unit.{unitIn}
 use Rattle.tables.proofs.TableLaws.{word-in}
 use borrow.Author.Needs.{needs}
 use Rattle.tables.proofs.write.Statement.{statement}
 use Rattle.tables.proofs.write.Tie as tie
 
 abbrev Inv-loop : tie.InvT-loop
-Inv-loop area from n words reply₀ at to₀ i₀ reply to i =
-    (i ≤ n) × (to ≡ at + 2 * i) × (length reply ≡ length reply₀) × Gathered (wordIn words) (part area from i) reply₀ at reply to
+Inv-loop area from n unit reply₀ at to₀ i₀ reply to i =
+    (i ≤ n) × (to ≡ at + 2 * i) × (length reply ≡ length reply₀) × Gathered (wordIn (unitIn unit .words)) (part area from i) reply₀ at reply to
 
 abbrev μ-loop : tie.MeasureT-loop
-μ-loop area from n words reply₀ at to₀ i₀ reply to i = n - i
+μ-loop area from n unit reply₀ at to₀ i₀ reply to i = n - i
 
 loop-holds : tie.Need-loop-holds Inv-loop μ-loop
 loop-holds c = (omega arith, omega arith, refl, rw part-none (gathered-none _ _ _))

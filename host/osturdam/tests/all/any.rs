@@ -47,10 +47,11 @@ fn events(unit: &mut Unit, chance: &mut Chance) -> [Outcome; 5] {
 #[test]
 fn any_kept_bytes_are_judged_and_left() {
     let mut chance = Chance(2179);
-    for _ in 0..50 {
-        let mut bytes = Box::new([0; Unit::BYTES]);
-        bytes.fill_with(|| chance.next() as u8);
-        let mut unit = Unit::from_bytes(Config::new(UNIT), &bytes);
+    for round in 0..50 {
+        let mut bytes = Unit::fresh(Config::new(UNIT)).to_bytes();
+        let own = [0, Config::BYTES][round % 2];
+        bytes[own..].fill_with(|| chance.next() as u8);
+        let mut unit = Unit::from_bytes(&bytes);
         assert_eq!(events(&mut unit, &mut chance), [Outcome::NotConfigured; 5]);
         let values: Vec<u16> = (0..chance.next() % 40).map(|n| n as u16).collect();
         assert_eq!(
@@ -77,6 +78,7 @@ fn any_configuration_is_judged() {
         Config::new(1).block(usize::MAX),
     ];
     for config in invalid {
+        assert!(!config.valid());
         assert_eq!(
             events(&mut Unit::fresh(config), &mut Chance(7)),
             [Outcome::NotConfigured; 5]
@@ -85,6 +87,7 @@ fn any_configuration_is_judged() {
     let widest = (0..=255).fold(Config::new(0x7FE).block(BLOCK), |config, n| {
         config.output(ControlOutput(n))
     });
+    assert!(widest.valid());
     assert_eq!(Unit::fresh(widest).elapsed(u32::MAX), Outcome::Done);
 }
 

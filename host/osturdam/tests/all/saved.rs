@@ -1,18 +1,20 @@
 //! A unit saved and restored.
 
 use crate::line::{answered, asked, UNIT};
-use osturdam::{
-    Clock, Config, ControlOutput, File, Hold, Input, Kept, Mark, Master, Memory, Ordinal,
-};
+use osturdam::{Clock, Config, ControlOutput, File, Hold, Input, Mark, Master, Memory, Ordinal};
 use osturdam::{Outcome, Pending, Select, SpecialCalculation, Stored, Unit, Write};
 
-fn busy() -> Unit {
-    let config = Config::new(UNIT)
+fn equipped() -> Config {
+    Config::new(UNIT)
         .input(Input(0x80))
         .output(ControlOutput(9))
         .calculation(SpecialCalculation(5))
-        .file(File(31), 3);
-    let mut unit = Unit::fresh(config.block(10));
+        .file(File(31), 3)
+        .block(10)
+}
+
+fn busy() -> Unit {
+    let mut unit = Unit::fresh(equipped());
     assert_eq!(unit.set_word(Input(0x80), 0xBEEF), Outcome::Done);
     assert_eq!(
         unit.set_value(SpecialCalculation(5), 0x7FC0_0001),
@@ -31,7 +33,7 @@ fn busy() -> Unit {
 #[test]
 fn a_restored_unit_is_the_same_and_goes_on() {
     let mut unit = busy();
-    let mut restored = Unit::from_bytes(unit.config().clone(), &unit.to_bytes());
+    let mut restored = Unit::from_bytes(&unit.to_bytes());
     assert_eq!(restored, unit);
     for unit in [&mut unit, &mut restored] {
         assert_eq!(answered(unit, 3, 0x03, 0x80, &[]), [0x01, 0x00, 0xC0, 0x7F]);
@@ -80,34 +82,41 @@ fn the_view_reads_what_is_kept() {
 }
 
 #[test]
-fn numbers_that_no_unit_writes_have_no_view_and_are_refused() {
-    let unit = busy();
-    for (place, number) in [
-        (5, 3),
-        (8, 2),
-        (10, 2),
-        (15, 2),
-        (16, 9),
-        (17, 256),
-        (18, 2),
-        (19, 1),
-        (25, 3),
-        (6, 300),
-        (13, 999),
-    ] {
-        let mut bytes = unit.to_bytes();
-        bytes[2 * place..2 * place + 2].copy_from_slice(&u16::to_le_bytes(number));
-        let mut worn = Unit::from_bytes(unit.config().clone(), &bytes);
-        assert_eq!(worn.kept().view(), None, "place {place}");
-        assert_eq!(worn.elapsed(0), Outcome::NotConfigured, "place {place}");
-        assert_eq!(worn.to_bytes(), bytes);
-    }
+fn its_configuration_is_saved_with_it() {
+    let restored = Unit::from_bytes(&busy().to_bytes()).config();
+    assert_eq!(restored, equipped());
+    assert_eq!((restored.unit(), restored.block_length()), (UNIT, 10));
+    assert!(restored.has_input(Input(0x80)) && !restored.has_input(Input(0x81)));
+    assert!(restored.has_output(ControlOutput(9)) && !restored.has_output(ControlOutput(8)));
+    let calculated = [5, 6].map(|n| restored.has_calculation(SpecialCalculation(n)));
+    assert_eq!(calculated, [true, false]);
+    let values = [31, 30, 32].map(|n| restored.values(File(n)));
+    assert_eq!(values, [Some(3), None, None]);
 }
 
 #[test]
-fn the_numbers_are_those_of_the_bytes() {
-    let unit = busy();
-    let bytes = unit.to_bytes();
-    let numbers = std::array::from_fn(|i| u16::from_le_bytes([bytes[2 * i], bytes[2 * i + 1]]));
-    assert_eq!(Kept::from_numbers(numbers), *unit.kept());
+fn what_is_held_is_read() {
+    let mut unit = busy();
+    assert_eq!(unit.word(Input(0x80)), 0xBEEF);
+    let values = [5, 127, 128].map(|n| unit.value(SpecialCalculation(n)));
+    assert_eq!(values, [Some(0x7FC0_0001), Some(0), None]);
+    let record = unit.record(File(31), 0).unwrap_or(&[]);
+    assert_eq!((record.len(), record.first()), (12, Some(&4)));
+    assert_eq!(record[6..], [1, 0, 2, 0, 3, 0]);
+    assert_eq!(
+        (unit.record(File(31), 1), unit.record(File(0), 0)),
+        (None, None)
+    );
+    assert_eq!(unit.record(File(32), 0), None);
+    for (ordinal, length) in [(0x00, 16), (0x03, 256), (0x06, 10), (0x0B, 256)] {
+        let last = [(length - 1) as u8, 0, ordinal];
+        assert_eq!(asked(&mut unit, 2, 0x20, 0x30, &last), Outcome::WriteTaken);
+        assert_eq!(asked(&mut unit, 2, 0x20, 0x31, b"x"), Outcome::Done);
+        let block = unit.block(Ordinal(ordinal)).unwrap_or(&[]);
+        assert_eq!((block.len(), block.last()), (length, Some(&b'x')));
+    }
+    assert_eq!(
+        (unit.block(Ordinal(2)), unit.block(Ordinal(255))),
+        (None, None)
+    );
 }

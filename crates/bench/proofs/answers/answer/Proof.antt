@@ -27,7 +27,7 @@ slice-aggregate-hear-2 c = search needs
 
 hear-requires : tie.Need-hear-requires
 hear-requires c κs =
-    let h = stretch-long _ _ (sym (c .before .before .before .before .before .before .before .before .before .before .before .read-line .ensures .0) ∙ c .before .before .before .before .before .before .before .before .said .given .1) in
+    let h = stretch-long _ _ (sym (c .before .before .before .before .before .before .before .before .read-line .ensures .0) ∙ c .before .before .before .before .before .said .given .1) in
     omega (arith, h .1)
 
 slice-aggregate-show : tie.Need-slice-aggregate-show
@@ -36,7 +36,7 @@ slice-aggregate-show c = search needs
 show-requires : tie.Need-show-requires
 show-requires c κs =
     let p = c .before .before .before .before .before .before .before .before .before .before .before .before .before .before .before .before .before .before .before .before .pre in
-    (p .0, p .1, p .3, omega (arith, c .before .before .before .hear .ensures))
+    (p .0, p .1, p .3, omega (arith, c .before .before .before .before .before .hear .ensures))
 
 enum-known-said-2 : tie.Need-enum-known-said-2
 enum-known-said-2 c = search needs
@@ -59,17 +59,23 @@ show-other-requires c κs = search needs
 same-length : tie.Need-same-length
 same-length c = search needs
 
+same-length-2 : tie.Need-same-length-2
+same-length-2 c = search needs
+
 returns : tie.Need-returns
 returns c = search needs
 
-same-length-2 : tie.Need-same-length-2
-same-length-2 c = search needs
+same-length-3 : tie.Need-same-length-3
+same-length-3 c = search needs
+
+same-length-4 : tie.Need-same-length-4
+same-length-4 c = search needs
 
 returns-2 : tie.Need-returns-2
 returns-2 c = search needs
 
-same-length-3 : tie.Need-same-length-3
-same-length-3 c = search needs
+same-length-5 : tie.Need-same-length-5
+same-length-5 c = search needs
 
 returns-3 : tie.Need-returns-3
 returns-3 c = search needs
@@ -94,8 +100,10 @@ answer-spec =
     enum-told
     show-other-requires
     same-length
-    returns
     same-length-2
-    returns-2
+    returns
     same-length-3
+    same-length-4
+    returns-2
+    same-length-5
     returns-3)

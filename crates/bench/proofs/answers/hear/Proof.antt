@@ -22,8 +22,11 @@ number-requires c κs = search needs
 same-length : tie.Need-same-length
 same-length c = search needs
 
+same-length-2 : tie.Need-same-length-2
+same-length-2 c = search needs
+
 returns : tie.Need-returns
-returns c = sent-inside _ _ _ _ (c .before .before .before .before .stretch .ensures)
+returns c = sent-inside _ _ _ (c .before .before .before .before .before .before .stretch .ensures)
 
 pub hear-spec : {M : Type 1} → statement M
 hear-spec =
@@ -34,4 +37,5 @@ hear-spec =
     stretch-requires
     number-requires
     same-length
+    same-length-2
     returns)

@@ -1,56 +1,44 @@
 -- `judge::ranges::write_stands` meets its contract: an arm for each case.
 -- Assumes nothing.
-use mathlib.Core.Path.{_∙_}
+use mathlib.Core.Path.{sym, _∙_}
 use borrow.Author.Needs.{needs}
 use Rattle.numbers.proofs.RangeLaws.{write-free, write-waits, write-none}
 use Rattle.judge.proofs.ranges.write_stands.Statement.{statement}
 use Rattle.judge.proofs.ranges.write_stands.Tie as tie
 
-element-copy-out-tag : tie.Need-element-copy-out-tag
-element-copy-out-tag c = search needs
-
-element-copy-out-zeros : tie.Need-element-copy-out-zeros
-element-copy-out-zeros c = search needs
-
-element-copy-out-zeros-2 : tie.Need-element-copy-out-zeros-2
-element-copy-out-zeros-2 c = search needs
-
-element-copy-out-zeros-3 : tie.Need-element-copy-out-zeros-3
-element-copy-out-zeros-3 c = search needs
-
-element-copy-out-zeros-4 : tie.Need-element-copy-out-zeros-4
-element-copy-out-zeros-4 c = search needs
+kept-of-requires : tie.Need-kept-of-requires
+kept-of-requires c κs = search needs
 
 zeros-requires : tie.Need-zeros-requires
 zeros-requires c κs = search needs
 
-element-copy-out-result : tie.Need-element-copy-out-result
-element-copy-out-result c = search needs
+kept-of-requires-2 : tie.Need-kept-of-requires-2
+kept-of-requires-2 c κs = search needs
 
-element-copy-out-result-2 : tie.Need-element-copy-out-result-2
-element-copy-out-result-2 c = search needs
+kept-of-requires-3 : tie.Need-kept-of-requires-3
+kept-of-requires-3 c κs = search needs
 
 returns : tie.Need-returns
-returns c = c .zeros .ensures ∙ write-free _ (c .before .before .before .before .before .match .keys1)
+returns c = c .zeros .ensures ∙ write-free _ (sym (c .before .before .kept-of .ensures) ∙ c .before .match .keys1)
 
 returns-2 : tie.Need-returns-2
-returns-2 c = write-waits _ (c .before .before .match .keys2)
+returns-2 c =
+    rw (c .before .kept-of2 .ensures, c .kept-of3 .ensures)
+    (write-waits _ (sym (c .before .before .before .kept-of .ensures) ∙ c .before .before .match .keys2))
 
 returns-3 : tie.Need-returns-3
-returns-3 c = write-none _ (c .match .rest .0 .1) (c .match .rest .1)
+returns-3 c =
+    let tag = c .before .kept-of .ensures in
+    write-none _ (λ q. c .match .rest .0 .1 (tag ∙ q)) (λ q. c .match .rest .1 (tag ∙ q))
 
 pub write-stands-spec : {M : Type 1} → statement M
 write-stands-spec =
     tie.close
     (tie.spec
-    element-copy-out-tag
-    element-copy-out-zeros
-    element-copy-out-zeros-2
-    element-copy-out-zeros-3
-    element-copy-out-zeros-4
+    kept-of-requires
     zeros-requires
-    element-copy-out-result
-    element-copy-out-result-2
+    kept-of-requires-2
+    kept-of-requires-3
     returns
     returns-2
     returns-3)

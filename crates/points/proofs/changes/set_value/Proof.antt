@@ -1,6 +1,5 @@
 -- `points::changes::set_value` meets its contract. Assumes nothing.
 use mathlib.Core.Path.{refl, sym, _∙_}
-use Rattle.points.proofs.NumberLaws.{calculation-below}
 use Rattle.points.proofs.AnswerLaws.{sets}
 use Rattle.points.proofs.ChangeLaws.{value-set, value-missing}
 use borrow.Author.Needs.{needs}
@@ -10,28 +9,14 @@ use Rattle.points.proofs.changes.set_value.Tie as tie
 has-calculation-requires : tie.Need-has-calculation-requires
 has-calculation-requires c κs = search needs
 
-cast-n : tie.Need-cast-n
-cast-n c = search needs
-
-mul-values : tie.Need-mul-values
-mul-values c = search needs
-
-element-write-values : tie.Need-element-write-values
-element-write-values c = calculation-below _ _ (sym (c .before .before .has-calculation .ensures) ∙ c .before .if1 .taken)
+put-value-requires : tie.Need-put-value-requires
+put-value-requires c κs = search needs
 
 returns : tie.Need-returns
-returns c = sets (value-set _ _ _ _ (sym (c .before .before .has-calculation .ensures) ∙ c .before .if1 .taken)) refl refl
+returns c = sets (value-set _ _ _ _ (sym (c .before .before .before .has-calculation .ensures) ∙ c .before .before .if1 .taken)) refl (c .put-value .ensures)
 
 returns-2 : tie.Need-returns-2
 returns-2 c = sets (value-missing _ _ _ _ (sym (c .before .has-calculation .ensures) ∙ c .if1 .left)) refl refl
 
 pub set-value-spec : {M : Type 1} → statement M
-set-value-spec =
-    tie.close
-    (tie.spec
-    has-calculation-requires
-    cast-n
-    mul-values
-    element-write-values
-    returns
-    returns-2)
+set-value-spec = tie.close (tie.spec has-calculation-requires put-value-requires returns returns-2)

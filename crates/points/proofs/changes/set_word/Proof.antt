@@ -16,18 +16,12 @@ returns : tie.Need-returns
 returns c =
     sets (word-other _ _ _ _ (sym (c .before .before .before .has-input .ensures) ∙ c .before .before .if1 .taken) (sym (c .before .is-accumulator .ensures) ∙ c .if2 .taken)) refl refl
 
-cast-n : tie.Need-cast-n
-cast-n c = search needs
-
-mul-words : tie.Need-mul-words
-mul-words c = search needs
-
-element-write-words : tie.Need-element-write-words
-element-write-words c = search needs
+put-word-requires : tie.Need-put-word-requires
+put-word-requires c κs = search needs
 
 returns-2 : tie.Need-returns-2
 returns-2 c =
-    sets (word-set _ _ _ _ (sym (c .before .before .before .before .has-input .ensures) ∙ c .before .before .before .if1 .taken) (sym (c .before .before .is-accumulator .ensures) ∙ c .before .if2 .left)) refl refl
+    sets (word-set _ _ _ _ (sym (c .before .before .before .before .before .has-input .ensures) ∙ c .before .before .before .before .if1 .taken) (sym (c .before .before .before .is-accumulator .ensures) ∙ c .before .before .if2 .left)) refl (c .put-word .ensures)
 
 returns-3 : tie.Need-returns-3
 returns-3 c = sets (word-missing _ _ _ _ (sym (c .before .has-input .ensures) ∙ c .if1 .left)) refl refl
@@ -39,8 +33,6 @@ set-word-spec =
     has-input-requires
     is-accumulator-requires
     returns
-    cast-n
-    mul-words
-    element-write-words
+    put-word-requires
     returns-2
     returns-3)

@@ -3,9 +3,9 @@ use mathlib.Core.Path.{refl}
 use native.Mathlib.Omega.{arith}
 use Prim.Native.Nat.{_≤_, _<_}
 use lib.ListN.{length}
-use Rattle.judge.specs.Judged.{configOf}
+use Rattle.layout.specs.Unit.{configIn}
 use Rattle.events.specs.Kept.{stateOf, ownedOf, keptIn}
-use Rattle.events.proofs.FitLaws.{judged-stands, judged-fits, judged-unfit, in-range}
+use Rattle.events.proofs.FitLaws.{judged-stands, judged-fits, judged-unfit, stands-room, stands-readable, in-range}
 use Rattle.unit.proofs.TurnLaws.{serves-short, serves-unfit, serves-made}
 use borrow.Author.Needs.{needs}
 use Rattle.unit.proofs.line.stretch.Statement.{statement}
@@ -16,20 +16,19 @@ quiet-requires c κs = search needs
 
 returns : tie.Need-returns
 returns c =
-    let s = c .before .before .before .before .before in
+    let s = c .before .before .before .before .before .before in
     let l : length (s .args .buffer .now) < 520 = omega arith in
-    serves-short _ _ _ (s .args .buffer .now) l (c .quiet .ensures)
+    serves-short _ _ (s .args .buffer .now) l (c .quiet .ensures)
 
 fits-requires : tie.Need-fits-requires
 fits-requires c κs = search needs
 
 judged-requires : tie.Need-judged-requires
 judged-requires c κs =
-    let s = c .before .before .before .before .before .before .before .before .before .before .before .before .before .before .before in
-    let cfg = configOf (s .args .unit) (s .args .length) (s .args .inputs .now) (s .args .outputs .now) (s .args .calculations .now) (s .args .files .now) (s .args .values .now) in
-    let x = ownedOf (s .args .kept .now) (s .args .words .now) (s .args .results .now) (s .args .fixed .now) (s .args .block .now) (s .args .area .now) (s .args .counts .now) in
-    let l : 520 ≤ length (s .args .buffer .now) = omega (arith, c .before .before .before .before .before .before .before .before .before .before .before .if1 .left) in
-    (l, in-range cfg (stateOf cfg (keptIn x)) (judged-fits cfg x refl (c .before .before .before .before .before .before .before .before .fits2 .ensures) (c .before .before .before .before .before .before .before .if2 .taken)) .clock)
+    let s = c .before .before .before .before .before .before .before .before .before .before .before .before in
+    let x = ownedOf (s .args .unit .now) (s .args .block .now) (s .args .records .now) in
+    let l : 520 ≤ length (s .args .buffer .now) = omega (arith, c .before .before .before .before .before .before .before .if1 .left) in
+    (l, in-range (configIn (x .unit)) (stateOf (configIn (x .unit)) (keptIn x)) (judged-fits x refl refl (c .before .before .before .before .before .fits2 .ensures) (c .before .before .before .before .if2 .taken)) .clock)
 
 same-length : tie.Need-same-length
 same-length c = search needs
@@ -37,18 +36,22 @@ same-length c = search needs
 same-length-2 : tie.Need-same-length-2
 same-length-2 c = search needs
 
+same-length-3 : tie.Need-same-length-3
+same-length-3 c = search needs
+
 returns-2 : tie.Need-returns-2
 returns-2 c =
-    let s = c .before .before .before .before .before .before .before .before .before .before .before .before .before .before .before .before .before .before .before .before in
-    let cfg = configOf (s .args .unit) (s .args .length) (s .args .inputs .now) (s .args .outputs .now) (s .args .calculations .now) (s .args .files .now) (s .args .values .now) in
-    let x = ownedOf (s .args .kept .now) (s .args .words .now) (s .args .results .now) (s .args .fixed .now) (s .args .block .now) (s .args .area .now) (s .args .counts .now) in
-    let l : 520 ≤ length (s .args .buffer .now) = omega (arith, c .before .before .before .before .before .before .before .before .before .before .before .before .before .before .before .before .if1 .left) in
-    let j = c .before .before .before .before .before .before .before .before .before .before .before .before .before .fits2 .ensures in
-    let t = c .before .before .before .before .before .before .before .before .before .before .before .before .if2 .taken in
-    let stands = judged-stands cfg x refl j t in
-    let fits = judged-fits cfg x refl j t in
-    let g = in-range cfg (stateOf cfg (keptIn x)) fits in
-    serves-made cfg (s .args .s .now) x (s .args .buffer .now) _ _ stands l fits (c .before .before .before .before .judged .ensures (s .args .length) (g .valid) (g .history) stands)
+    let s = c .before .before .before .before .before .before .before .before .before .before .before .before .before .before .before .before .before .before .before in
+    let x = ownedOf (s .args .unit .now) (s .args .block .now) (s .args .records .now) in
+    let l : 520 ≤ length (s .args .buffer .now) = omega (arith, c .before .before .before .before .before .before .before .before .before .before .before .before .before .before .if1 .left) in
+    let j = c .before .before .before .before .before .before .before .before .before .before .before .before .fits2 .ensures in
+    let t = c .before .before .before .before .before .before .before .before .before .before .before .if2 .taken in
+    let stands = judged-stands x refl refl j t in
+    let fits = judged-fits x refl refl j t in
+    let g = in-range (configIn (x .unit)) (stateOf (configIn (x .unit)) (keptIn x)) fits in
+    let done = c .before .before .before .before .before .before .judged .ensures in
+    serves-made (s .args .s .now) x (s .args .buffer .now) _ _ stands l fits
+    (done .0 (record { valid = g .valid; fits = g .history; room = stands-room x stands }) (stands-readable x stands)) (done .1)
 
 quiet-requires-2 : tie.Need-quiet-requires-2
 quiet-requires-2 c κs = search needs
@@ -56,10 +59,9 @@ quiet-requires-2 c κs = search needs
 returns-3 : tie.Need-returns-3
 returns-3 c =
     let s = c .before .before .before .before .before .before .before .before .before in
-    let cfg = configOf (s .args .unit) (s .args .length) (s .args .inputs .now) (s .args .outputs .now) (s .args .calculations .now) (s .args .files .now) (s .args .values .now) in
-    let x = ownedOf (s .args .kept .now) (s .args .words .now) (s .args .results .now) (s .args .fixed .now) (s .args .block .now) (s .args .area .now) (s .args .counts .now) in
-    let l : 520 ≤ length (s .args .buffer .now) = omega (arith, c .before .before .before .before .before .if1 .left) in
-    serves-unfit cfg (s .args .s .now) x (s .args .buffer .now) l (judged-unfit cfg x refl (c .before .before .fits2 .ensures) (c .before .if2 .left)) (c .quiet2 .ensures)
+    let x = ownedOf (s .args .unit .now) (s .args .block .now) (s .args .records .now) in
+    let l : 520 ≤ length (s .args .buffer .now) = omega (arith, c .before .before .before .before .if1 .left) in
+    serves-unfit (s .args .s .now) x (s .args .buffer .now) l (judged-unfit x refl refl (c .before .before .fits2 .ensures) (c .before .if2 .left)) (c .quiet2 .ensures)
 
 pub stretch-spec : {M : Type 1} → statement M
 stretch-spec =
@@ -71,6 +73,7 @@ stretch-spec =
     judged-requires
     same-length
     same-length-2
+    same-length-3
     returns-2
     quiet-requires-2
     returns-3)

@@ -1,15 +1,20 @@
 -- `unit::start::fresh` meets its contract. Assumes nothing.
-use mathlib.Core.Path.{refl}
-use Rattle.unit.proofs.FreshLaws.{fresh-written}
+use Rattle.unit.proofs.FreshLaws.{fresh-kept}
 use borrow.Author.Needs.{needs}
 use Rattle.unit.proofs.start.fresh.Statement.{statement}
 use Rattle.unit.proofs.start.fresh.Tie as tie
 
-element-write-kept : tie.Need-element-write-kept
-element-write-kept c = search needs
+told-long-requires : tie.Need-told-long-requires
+told-long-requires c κs = search needs
 
-element-write-kept-2 : tie.Need-element-write-kept-2
-element-write-kept-2 c = search needs
+begin-requires : tie.Need-begin-requires
+begin-requires c κs = search needs
+
+keep-clock-requires : tie.Need-keep-clock-requires
+keep-clock-requires c κs = search needs
+
+keep-configure-requires : tie.Need-keep-configure-requires
+keep-configure-requires c κs = search needs
 
 zero-requires : tie.Need-zero-requires
 zero-requires c κs = search needs
@@ -19,11 +24,8 @@ same-length c = search needs
 
 returns : tie.Need-returns
 returns c =
-    record {
-      kept = fresh-written;
-      cleared = record { words = refl; results = refl; fixed = refl; block = c .before .before .zero .ensures; counts = refl };
-    }
+    let m = fresh-kept _ (c .before .before .before .before .before .before .before .before .before .before .before .told-long-arg .given .0) (c .before .before .before .before .before .before .before .before .begin .ensures) (c .before .before .before .before .before .before .keep-clock .ensures .0) (c .before .before .before .before .keep-configure .ensures) in
+    record { means = m .0; long-is = m .1; block-cleared = c .before .before .zero .ensures }
 
 pub fresh-spec : {M : Type 1} → statement M
-fresh-spec =
-    tie.close (tie.spec element-write-kept element-write-kept-2 zero-requires same-length returns)
+fresh-spec = tie.close (tie.spec told-long-requires begin-requires keep-clock-requires keep-configure-requires zero-requires same-length returns)

@@ -1,0 +1,2 @@
+-- The law that the proofs of this crate cite.
+pub mod BenchLaws

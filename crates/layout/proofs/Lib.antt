@@ -1,0 +1,4 @@
+pub mod RegionLaws
+pub mod UnitLaws
+pub mod UnitOne
+pub mod BlankLaws

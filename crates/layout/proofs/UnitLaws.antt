@@ -1,0 +1,318 @@
+-- What a unit's memory means where it was read, and after a part was written: that part's meaning, and every other as it was.
+use mathlib.Core.Path.{_≡_, refl, sym, ap, _∙_}
+use Prim.Native.Nat.{ℕ, zero, suc, _+_, _*_, _/_, _%_, _≤_, _<_}
+use native.Mathlib.Omega.{arith}
+use mathlib.Core.List.{List, [], _∷_}
+use mathlib.Core.Bool.{Bool, true, false, cond}
+use lib.ListN.{length, getD, set}
+use lib.Seq.{set-out}
+use lib.Dec.{lit<, lit≤, leb}
+use borrow.Author.Tests.{le-leb, lt-leb}
+use Rattle.chars.specs.Put.{put, part}
+use Rattle.chars.specs.Word.{word, value, wordAt}
+use Rattle.chars.proofs.PutLaws.{length-put, put-none, put-one}
+use Rattle.chars.proofs.WordLaws.{length-word, length-value}
+use Rattle.model.specs.Config.{Config}
+use Rattle.layout.specs.Regions.{startIn, regionIn, setAt}
+use Rattle.layout.specs.Unit.{Unit, Renumbered, NumbersOnly, numbersIn, unitSizes, unitLong, startOf, layoutRegion, numberRegion, lengthRegion, inputsRegion, outputsRegion, calculationsRegion, filesRegion, valuesRegion, numbersRegion, wordsRegion, resultsRegion, fixedRegion, countsRegion, wordsIn, resultsIn, configOf, unitOf, unitIn, configIn, setNumbers, setWords, setValues, setFixed, setCounts, putIn, putNumber, putWord, putValue, putFixed, putCount, putCounts}
+use Rattle.layout.proofs.RegionLaws.{regions-put, region-whole, region-at, region-past, region-part, region-own, region-most}
+
+-- how long a lent unit is: UNIT of src/lib.rt
+pub unit-long : (u : List ℕ) → length u ≡ 2474 → length u ≡ unitLong
+unfolding startIn unitSizes
+unit-long u e = e
+
+-- ---- writing, in general
+
+-- characters that lie in their region
+pub put-in : (u : List ℕ) (k i : ℕ) (ys : List ℕ) → i + length ys ≤ getD unitSizes k 0 → putIn u k i ys ≡ put u (startOf k + i) ys
+unfolding putIn
+put-in u k i ys h = simp (le-leb _ _ h)
+
+-- characters that do not are not written
+pub put-out : (u : List ℕ) (k i : ℕ) (ys : List ℕ) → getD unitSizes k 0 < i + length ys → putIn u k i ys ≡ u
+unfolding putIn
+put-out u k i ys h = simp (lt-leb _ _ h)
+
+-- a region's own characters written again leave the memory
+pub put-own : (u : List ℕ) (k : ℕ) → k < length unitSizes → putIn u k 0 (regionIn unitSizes u k) ≡ u
+put-own u k h =
+    let e : startOf k + 0 ≡ startOf k = omega arith in
+    put-in u k 0 _ (omega (arith, region-most unitSizes u k)) ∙ ap (λ (a : ℕ). put u a (regionIn unitSizes u k)) e ∙ region-own unitSizes u k h
+
+put-or : (u : List ℕ) (at : ℕ) (ys : List ℕ) (b : Bool) → length (cond b (put u at ys) u) ≡ length u
+put-or u at ys true = length-put u at ys
+put-or u at ys false = refl
+
+pub length-put-in : (u : List ℕ) (k i : ℕ) (ys : List ℕ) → length (putIn u k i ys) ≡ length u
+unfolding putIn
+length-put-in u k i ys = put-or u (startOf k + i) ys (leb (i + length ys) (getD unitSizes k 0))
+
+unit-put : (u : List ℕ) (k i : ℕ) (ys : List ℕ) → i + length ys ≤ getD unitSizes k 0
+    → unitIn (putIn u k i ys) ≡ unitOf (setAt (regionIn unitSizes u) k (put (regionIn unitSizes u k) i ys))
+unit-put u k i ys h = ap unitIn (put-in u k i ys h) ∙ ap unitOf (regions-put unitSizes u k i ys h)
+
+-- a region set anew, as the unit means it
+module _ (r : ℕ → List ℕ) (x : List ℕ) where
+  unit-numbers : unitOf (setAt r numbersRegion x) ≡ setNumbers (unitOf r) (wordsIn x)
+  unfolding unitOf configOf setAt
+  unit-numbers = refl
+
+  unit-words : unitOf (setAt r wordsRegion x) ≡ setWords (unitOf r) (wordsIn x)
+  unfolding unitOf configOf setAt
+  unit-words = refl
+
+  unit-values : unitOf (setAt r resultsRegion x) ≡ setValues (unitOf r) (resultsIn x)
+  unfolding unitOf configOf setAt
+  unit-values = refl
+
+  unit-fixed : unitOf (setAt r fixedRegion x) ≡ setFixed (unitOf r) x
+  unfolding unitOf configOf setAt
+  unit-fixed = refl
+
+  unit-counts : unitOf (setAt r countsRegion x) ≡ setCounts (unitOf r) x
+  unfolding unitOf configOf setAt
+  unit-counts = refl
+
+-- how long each region is
+sizes : (getD unitSizes wordsRegion 0 ≡ 512) × (getD unitSizes resultsRegion 0 ≡ 512) × (getD unitSizes fixedRegion 0 ≡ 528) × (getD unitSizes countsRegion 0 ≡ 32)
+unfolding unitSizes
+sizes = (refl, refl, refl, refl)
+
+-- ---- words and values
+
+words-put : (r : List ℕ) (n v : ℕ) → 2 * n + 2 ≤ length r → wordsIn (put r (2 * n) (word v)) ≡ set (wordsIn r) n v
+unfolding put word wordsIn
+words-put [] n v h = absurd (omega arith)
+words-put (a ∷ []) n v h = absurd (omega arith)
+words-put (a ∷ b ∷ r) zero v h =
+    let e : v % 256 + 256 * (v / 256) ≡ v = omega arith in
+    ap (λ (l : List ℕ). (v % 256 + 256 * (v / 256)) ∷ wordsIn l) (put-none r 0) ∙ ap (λ (x : ℕ). x ∷ wordsIn r) e
+words-put (a ∷ b ∷ r) (suc n) v h =
+    let e : 2 * suc n ≡ suc (suc (2 * n)) = omega arith in
+    rw e (ap (λ (l : List ℕ). (a + 256 * b) ∷ l) (words-put r n v (omega arith)))
+
+words-most : (n : ℕ) (r : List ℕ) → length r ≤ 2 * n → length (wordsIn r) ≤ n
+unfolding wordsIn
+words-most n [] h = omega arith
+words-most zero (a ∷ r) h = absurd (omega arith)
+words-most (suc n) (a ∷ []) h = omega arith
+words-most (suc n) (a ∷ b ∷ r) h = omega (arith, words-most n r (omega arith))
+
+words-at : (r : List ℕ) (n : ℕ) → getD (wordsIn r) n 0 ≡ wordAt r (2 * n)
+unfolding wordsIn wordAt
+words-at [] n = omega arith
+words-at (a ∷ []) zero = omega arith
+words-at (a ∷ []) (suc n) =
+    let e : 2 * suc n ≡ suc (suc (2 * n)) = omega arith in
+    let f : suc (suc (2 * n)) + 1 ≡ suc (suc (2 * n + 1)) = omega arith in
+    rw (e, f) refl
+words-at (a ∷ b ∷ r) zero = refl
+words-at (a ∷ b ∷ r) (suc n) =
+    let e : 2 * suc n ≡ suc (suc (2 * n)) = omega arith in
+    let f : suc (suc (2 * n)) + 1 ≡ suc (suc (2 * n + 1)) = omega arith in
+    rw (e, f) (words-at r n)
+
+value-back : (v : ℕ) → v % 256 + 256 * (v / 256 % 256) + 65536 * (v / 65536 % 256 + 256 * (v / 16777216)) ≡ v
+value-back v = omega arith
+
+values-put : (r : List ℕ) (n v : ℕ) → 4 * n + 4 ≤ length r → resultsIn (put r (4 * n) (value v)) ≡ set (resultsIn r) n v
+unfolding put value resultsIn
+values-put [] n v h = absurd (omega arith)
+values-put (a ∷ []) n v h = absurd (omega arith)
+values-put (a ∷ b ∷ []) n v h = absurd (omega arith)
+values-put (a ∷ b ∷ c ∷ []) n v h = absurd (omega arith)
+values-put (a ∷ b ∷ c ∷ d ∷ r) zero v h =
+    ap (λ (l : List ℕ). (v % 256 + 256 * (v / 256 % 256) + 65536 * (v / 65536 % 256 + 256 * (v / 16777216))) ∷ resultsIn l) (put-none r 0)
+    ∙ ap (λ (x : ℕ). x ∷ resultsIn r) (value-back v)
+values-put (a ∷ b ∷ c ∷ d ∷ r) (suc n) v h =
+    let e : 4 * suc n ≡ suc (suc (suc (suc (4 * n)))) = omega arith in
+    rw e (ap (λ (l : List ℕ). (a + 256 * b + 65536 * (c + 256 * d)) ∷ l) (values-put r n v (omega arith)))
+
+none-at : (r : List ℕ) (i : ℕ) → length r ≤ i → getD r i 0 ≡ 0
+none-at [] i h = refl
+none-at (x ∷ r) zero h = absurd (omega arith)
+none-at (x ∷ r) (suc i) h = none-at r i (omega arith)
+
+no-value : (r : List ℕ) (n : ℕ) → length r ≤ 4 * n → wordAt r (4 * n) + 65536 * wordAt r (4 * n + 2) ≡ 0
+unfolding wordAt
+no-value r n h = rw (none-at r (4 * n) h, none-at r (4 * n + 1) (omega arith), none-at r (4 * n + 2) (omega arith), none-at r (4 * n + 2 + 1) (omega arith))
+
+values-at : (r : List ℕ) (n : ℕ) → getD (resultsIn r) n 0 ≡ wordAt r (4 * n) + 65536 * wordAt r (4 * n + 2)
+unfolding resultsIn wordAt
+values-at [] n = omega arith
+values-at (a ∷ []) zero = omega arith
+values-at (a ∷ b ∷ []) zero = omega arith
+values-at (a ∷ b ∷ c ∷ []) zero = omega arith
+values-at (a ∷ []) (suc n) = sym (no-value (a ∷ []) (suc n) (omega arith))
+values-at (a ∷ b ∷ []) (suc n) = sym (no-value (a ∷ b ∷ []) (suc n) (omega arith))
+values-at (a ∷ b ∷ c ∷ []) (suc n) = sym (no-value (a ∷ b ∷ c ∷ []) (suc n) (omega arith))
+values-at (a ∷ b ∷ c ∷ d ∷ r) zero = refl
+values-at (a ∷ b ∷ c ∷ d ∷ r) (suc n) =
+    let e : 4 * suc n ≡ suc (suc (suc (suc (4 * n)))) = omega arith in
+    let f : (i : ℕ) → suc (suc (suc (suc (4 * n)))) + i ≡ suc (suc (suc (suc (4 * n + i)))) = λ i. omega arith in
+    let g : suc (suc (suc (suc (4 * n + 2)))) + 1 ≡ suc (suc (suc (suc (4 * n + 2 + 1)))) = omega arith in
+    rw (e, f 1, f 2, g) (values-at r n)
+
+-- ---- a part written
+
+module _ (u : List ℕ) (long : length u ≡ unitLong) where
+  pub region-size : (k : ℕ) → k < length unitSizes → length (regionIn unitSizes u k) ≡ getD unitSizes k 0
+  region-size k h = region-whole unitSizes u k h long
+
+  pub number-written : (i v : ℕ) → i < 26 → unitIn (putNumber u i v) ≡ setNumbers (unitIn u) (set (unitIn u .numbers) i v)
+  unfolding unitSizes unitOf
+  number-written i v h =
+      unit-put u numbersRegion (2 * i) (word v) (omega (arith, length-word v)) ∙ unit-numbers _ _
+      ∙ ap (setNumbers (unitIn u)) (words-put _ i v (omega (arith, region-size numbersRegion (lit< tt))))
+
+  pub word-written : (n v : ℕ) → n < 256 → unitIn (putWord u n v) ≡ setWords (unitIn u) (set (unitIn u .words) n v)
+  unfolding unitSizes unitOf
+  word-written n v h =
+      unit-put u wordsRegion (2 * n) (word v) (omega (arith, length-word v)) ∙ unit-words _ _
+      ∙ ap (setWords (unitIn u)) (words-put _ n v (omega (arith, region-size wordsRegion (lit< tt))))
+
+  pub value-written : (n v : ℕ) → n < 128 → unitIn (putValue u n v) ≡ setValues (unitIn u) (set (unitIn u .values) n v)
+  unfolding unitSizes unitOf
+  value-written n v h =
+      unit-put u resultsRegion (4 * n) (value v) (omega (arith, length-value v)) ∙ unit-values _ _
+      ∙ ap (setValues (unitIn u)) (values-put _ n v (omega (arith, region-size resultsRegion (lit< tt))))
+
+pub fixed-written : (u : List ℕ) (at : ℕ) (ys : List ℕ) → at + length ys ≤ 528 → unitIn (putFixed u at ys) ≡ setFixed (unitIn u) (put (unitIn u .fixed) at ys)
+unfolding unitSizes unitOf
+fixed-written u at ys h = unit-put u fixedRegion at ys h ∙ unit-fixed _ _
+
+pub count-written : (u : List ℕ) (f n : ℕ) → f < 32 → unitIn (putCount u f n) ≡ setCounts (unitIn u) (set (unitIn u .counts) f n)
+unfolding unitSizes unitOf
+count-written u f n h = unit-put u countsRegion f (n ∷ []) (omega arith) ∙ unit-counts _ _ ∙ ap (setCounts (unitIn u)) (put-one _ f n)
+
+-- ---- what is read from where
+
+region-word : (u : List ℕ) (k i : ℕ) → i + 2 ≤ getD unitSizes k 0 → wordAt (regionIn unitSizes u k) i ≡ wordAt u (startOf k + i)
+unfolding wordAt
+region-word u k i h =
+    rw (region-at unitSizes u k i (omega arith), region-at unitSizes u k (i + 1) (omega arith))
+    (ap (λ (a : ℕ). getD u (startOf k + i) 0 + 256 * getD u a 0) (omega arith))
+
+module _ (u : List ℕ) where
+  pub layout-is : unitIn u .layout ≡ wordAt u (startOf layoutRegion)
+  unfolding unitOf unitSizes
+  layout-is = let f : startOf layoutRegion + 0 ≡ startOf layoutRegion = omega arith in region-word u layoutRegion 0 (lit≤ tt) ∙ ap (wordAt u) f
+
+  pub number-is : configIn u .unit ≡ wordAt u (startOf numberRegion)
+  unfolding unitOf configOf unitSizes
+  number-is = let f : startOf numberRegion + 0 ≡ startOf numberRegion = omega arith in region-word u numberRegion 0 (lit≤ tt) ∙ ap (wordAt u) f
+
+  pub length-is : configIn u .block ≡ wordAt u (startOf lengthRegion)
+  unfolding unitOf configOf unitSizes
+  length-is = let f : startOf lengthRegion + 0 ≡ startOf lengthRegion = omega arith in region-word u lengthRegion 0 (lit≤ tt) ∙ ap (wordAt u) f
+
+module _ (u : List ℕ) (n : ℕ) (h : n < 256) where
+  pub input-at : getD (configIn u .inputs) n 0 ≡ getD u (startOf inputsRegion + n) 0
+  unfolding unitOf configOf unitSizes
+  input-at = region-at unitSizes u inputsRegion n h
+
+  pub output-at : getD (configIn u .outputs) n 0 ≡ getD u (startOf outputsRegion + n) 0
+  unfolding unitOf configOf unitSizes
+  output-at = region-at unitSizes u outputsRegion n h
+
+  pub calculation-at : getD (configIn u .calculations) n 0 ≡ getD u (startOf calculationsRegion + n) 0
+  unfolding unitOf configOf unitSizes
+  calculation-at = region-at unitSizes u calculationsRegion n h
+
+  pub word-at : getD (unitIn u .words) n 0 ≡ wordAt u (startOf wordsRegion + 2 * n)
+  unfolding unitOf unitSizes
+  word-at = words-at (regionIn unitSizes u wordsRegion) n ∙ region-word u wordsRegion (2 * n) (omega arith)
+
+module _ (u : List ℕ) (f : ℕ) (h : f < 32) where
+  pub file-at : getD (configIn u .files) f 0 ≡ getD u (startOf filesRegion + f) 0
+  unfolding unitOf configOf unitSizes
+  file-at = region-at unitSizes u filesRegion f h
+
+  pub values-of-at : getD (configIn u .values) f 0 ≡ getD u (startOf valuesRegion + f) 0
+  unfolding unitOf configOf unitSizes
+  values-of-at = region-at unitSizes u valuesRegion f h
+
+  pub count-at : getD (unitIn u .counts) f 0 ≡ getD u (startOf countsRegion + f) 0
+  unfolding unitOf unitSizes
+  count-at = region-at unitSizes u countsRegion f h
+
+pub kept-at : (u : List ℕ) (i : ℕ) → i < 26 → getD (unitIn u .numbers) i 0 ≡ wordAt u (startOf numbersRegion + 2 * i)
+unfolding unitOf unitSizes
+kept-at u i h = words-at (regionIn unitSizes u numbersRegion) i ∙ region-word u numbersRegion (2 * i) (omega arith)
+
+pub kept-past : (u : List ℕ) (i : ℕ) → 26 ≤ i → getD (unitIn u .numbers) i 0 ≡ 0
+unfolding unitOf unitSizes wordAt
+kept-past u i h =
+    let p : (j : ℕ) → 52 ≤ j → getD (regionIn unitSizes u numbersRegion) j 0 ≡ 0 = region-past unitSizes u numbersRegion in
+    words-at (regionIn unitSizes u numbersRegion) i ∙ rw (p (2 * i) (omega arith), p (2 * i + 1) (omega arith))
+
+-- no file is numbered 32 or over
+module _ (u : List ℕ) (f : ℕ) (h : 32 ≤ f) where
+  pub values-of-past : getD (configIn u .values) f 0 ≡ 0
+  unfolding unitOf configOf unitSizes
+  values-of-past = region-past unitSizes u valuesRegion f h
+
+  pub count-past : getD (unitIn u .counts) f 0 ≡ 0
+  unfolding unitOf unitSizes
+  count-past = region-past unitSizes u countsRegion f h
+
+pub value-at : (u : List ℕ) (n : ℕ) → n < 128
+    → getD (unitIn u .values) n 0 ≡ wordAt u (startOf resultsRegion + 4 * n) + 65536 * wordAt u (startOf resultsRegion + 4 * n + 2)
+unfolding unitOf unitSizes
+value-at u n h =
+    let e : startOf resultsRegion + (4 * n + 2) ≡ startOf resultsRegion + 4 * n + 2 = omega arith in
+    values-at (regionIn unitSizes u resultsRegion) n ∙ rw (region-word u resultsRegion (4 * n) (omega arith), region-word u resultsRegion (4 * n + 2) (omega arith), e)
+
+pub value-past : (u : List ℕ) (n : ℕ) → 128 ≤ n → getD (unitIn u .values) n 0 ≡ 0
+unfolding unitOf unitSizes wordAt
+value-past u n h =
+    let p : (i : ℕ) → 512 ≤ i → getD (regionIn unitSizes u resultsRegion) i 0 ≡ 0 = region-past unitSizes u resultsRegion in
+    values-at (regionIn unitSizes u resultsRegion) n ∙ rw (p (4 * n) (omega arith), p (4 * n + 1) (omega arith), p (4 * n + 2) (omega arith), p (4 * n + 2 + 1) (omega arith))
+
+-- the fixed area is a part of the memory
+pub fixed-is : (u : List ℕ) → unitIn u .fixed ≡ part u (startOf fixedRegion) 528
+unfolding unitOf unitSizes
+fixed-is u = region-part unitSizes u fixedRegion (lit< tt)
+
+-- ---- whole regions anew
+
+pub counts-own : (u : List ℕ) → putCounts u (unitIn u .counts) ≡ u
+unfolding unitOf unitSizes
+counts-own u = put-own u countsRegion (lit< tt)
+
+pub fixed-own : (u : List ℕ) → putFixed u 0 (unitIn u .fixed) ≡ u
+unfolding unitOf unitSizes
+fixed-own u = put-own u fixedRegion (lit< tt)
+
+-- ---- kept numbers, one write after another
+
+pub renumbered-in : (u v : List ℕ) (i n : ℕ) → length u ≡ unitLong → i < 26 → v ≡ putNumber u i n → Renumbered u v (set (unitIn u .numbers) i n)
+renumbered-in u v i n long h e =
+    record { means = ap unitIn e ∙ number-written u long i n h; long = ap length e ∙ length-put-in u numbersRegion (2 * i) (word n) }
+
+numbers-most : (u : List ℕ) → length (unitIn u .numbers) ≤ 26
+unfolding unitOf unitSizes
+numbers-most u = words-most 26 (regionIn unitSizes u numbersRegion) (region-most unitSizes u numbersRegion)
+
+pub renumbered-out : (u : List ℕ) (i n : ℕ) → 26 ≤ i → Renumbered u u (set (unitIn u .numbers) i n)
+renumbered-out u i n h = rw (set-out (unitIn u .numbers) i n (omega (arith, numbers-most u))) (record { means = refl; long = refl })
+
+pub renumbered-same : (u : List ℕ) → Renumbered u u (unitIn u .numbers)
+renumbered-same u = record { means = refl; long = refl }
+
+pub numbers-left : (u v : List ℕ) {ks : List ℕ} → Renumbered u v ks → unitIn v .numbers ≡ ks
+numbers-left u v r = ap (λ (x : Unit). x .numbers) (r .means)
+
+pub renumbered-then : (f : List ℕ → List ℕ) (u v w : List ℕ) {ks : List ℕ} → Renumbered u v ks → Renumbered v w (f (unitIn v .numbers)) → Renumbered u w (f ks)
+renumbered-then f u v w {ks} a b =
+    record {
+      means = b .means ∙ ap (λ (x : Unit). setNumbers x (f (x .numbers))) (a .means);
+      long = b .long ∙ a .long;
+    }
+
+pub numbers-only : (u v : List ℕ) {ks : List ℕ} → Renumbered u v ks → NumbersOnly u v
+numbers-only u v r = record { means = r .means ∙ ap (setNumbers (unitIn u)) (sym (numbers-left u v r)); long = r .long }
+
+pub numbers-on : (u v w : List ℕ) → NumbersOnly u v → NumbersOnly v w → NumbersOnly u w
+numbers-on u v w a b = record { means = b .means ∙ ap (λ (x : Unit). setNumbers x (numbersIn w)) (a .means); long = b .long ∙ a .long }

@@ -1,0 +1,254 @@
+-- Where everything lies in a unit's memory, and what its characters mean. This stands once.
+use mathlib.Core.Path.{_≡_}
+use Prim.Native.Nat.{ℕ, _+_, _*_}
+use mathlib.Core.List.{List, [], _∷_, _++_}
+use mathlib.Core.Bool.{cond}
+use lib.ListN.{length, getD, replicate}
+use lib.Dec.{leb}
+use Rattle.chars.specs.Put.{put}
+use Rattle.chars.specs.Word.{word, value, wordAt}
+use Rattle.model.specs.Limits.{fileRoom, longestRecord}
+use Rattle.model.specs.Config.{Config}
+use Rattle.layout.specs.declared.Places.{Places}
+use Rattle.layout.specs.Regions.{startIn, regionIn}
+
+-- ---- the regions, in their order, with their sizes
+
+-- the configuration: unit number and length of the parameter block, the equipped inputs, outputs, calculations and files, the
+-- values of a file's records
+abbrev pub configSizes : List ℕ
+configSizes = 2 ∷ 2 ∷ 256 ∷ 256 ∷ 256 ∷ 32 ∷ 32 ∷ []
+
+-- what a unit keeps: the numbers of clock, select, write, status, latest history reply and port, the input words, the calculation
+-- values, the fixed blocks, the record counts
+abbrev pub keptSizes : List ℕ
+keptSizes = 52 ∷ 512 ∷ 512 ∷ 528 ∷ 32 ∷ []
+
+-- first the number of this layout, so that a memory of another is never misread
+unfoldable pub unitSizes : List ℕ
+unitSizes = 2 ∷ (configSizes ++ keptSizes)
+
+abbrev pub layoutRegion : ℕ
+layoutRegion = 0
+
+abbrev pub numberRegion : ℕ
+numberRegion = 1
+
+abbrev pub lengthRegion : ℕ
+lengthRegion = 2
+
+abbrev pub inputsRegion : ℕ
+inputsRegion = 3
+
+abbrev pub outputsRegion : ℕ
+outputsRegion = 4
+
+abbrev pub calculationsRegion : ℕ
+calculationsRegion = 5
+
+abbrev pub filesRegion : ℕ
+filesRegion = 6
+
+abbrev pub valuesRegion : ℕ
+valuesRegion = 7
+
+abbrev pub numbersRegion : ℕ
+numbersRegion = 8
+
+abbrev pub wordsRegion : ℕ
+wordsRegion = 9
+
+abbrev pub resultsRegion : ℕ
+resultsRegion = 10
+
+abbrev pub fixedRegion : ℕ
+fixedRegion = 11
+
+abbrev pub countsRegion : ℕ
+countsRegion = 12
+
+-- where a region of a unit starts
+abbrev pub startOf : ℕ → ℕ
+startOf k = startIn unitSizes k
+
+-- how long a unit's memory is
+abbrev pub unitLong : ℕ
+unitLong = startOf (length unitSizes)
+
+-- how long a configuration is
+abbrev pub configLong : ℕ
+configLong = startIn configSizes (length configSizes)
+
+-- the number of this layout
+abbrev pub layoutNumber : ℕ
+layoutNumber = 1
+
+unfoldable pub placesOf : Places
+placesOf =
+    record {
+      layout = startOf layoutRegion;
+      number = startOf numberRegion;
+      length = startOf lengthRegion;
+      inputs = startOf inputsRegion;
+      outputs = startOf outputsRegion;
+      calculations = startOf calculationsRegion;
+      files = startOf filesRegion;
+      values = startOf valuesRegion;
+      numbers = startOf numbersRegion;
+      words = startOf wordsRegion;
+      results = startOf resultsRegion;
+      fixed = startOf fixedRegion;
+      counts = startOf countsRegion;
+      config = configLong;
+      unit = unitLong;
+      current = layoutNumber;
+    }
+
+-- ---- what a region's characters mean
+
+-- words of two characters, low character first (document 01, head)
+unfoldable pub wordsIn : List ℕ → List ℕ
+wordsIn [] = []
+wordsIn (a ∷ []) = a ∷ []
+wordsIn (a ∷ b ∷ r) = (a + 256 * b) ∷ wordsIn r
+
+-- values of four, likewise (Scans 25)
+unfoldable pub resultsIn : List ℕ → List ℕ
+resultsIn [] = []
+resultsIn (a ∷ []) = a ∷ []
+resultsIn (a ∷ b ∷ []) = (a + 256 * b) ∷ []
+resultsIn (a ∷ b ∷ c ∷ []) = (a + 256 * b + 65536 * c) ∷ []
+resultsIn (a ∷ b ∷ c ∷ d ∷ r) = (a + 256 * b + 65536 * (c + 256 * d)) ∷ resultsIn r
+
+-- ---- what a unit's memory means
+
+pub record Unit : Type 0 where
+  pub layout : ℕ
+  pub config : Config
+  pub numbers : List ℕ
+  pub words : List ℕ
+  pub values : List ℕ
+  pub fixed : List ℕ
+  pub counts : List ℕ
+
+unfoldable pub configOf : (ℕ → List ℕ) → Config
+configOf r =
+    record {
+      unit = wordAt (r numberRegion) 0;
+      inputs = r inputsRegion;
+      outputs = r outputsRegion;
+      calculations = r calculationsRegion;
+      files = r filesRegion;
+      values = r valuesRegion;
+      block = wordAt (r lengthRegion) 0;
+    }
+
+unfoldable pub unitOf : (ℕ → List ℕ) → Unit
+unitOf r =
+    record {
+      layout = wordAt (r layoutRegion) 0;
+      config = configOf r;
+      numbers = wordsIn (r numbersRegion);
+      words = wordsIn (r wordsRegion);
+      values = resultsIn (r resultsRegion);
+      fixed = r fixedRegion;
+      counts = r countsRegion;
+    }
+
+abbrev pub unitIn : List ℕ → Unit
+unitIn u = unitOf (regionIn unitSizes u)
+
+abbrev pub configIn : List ℕ → Config
+configIn u = unitIn u .config
+
+-- ---- a part anew
+
+abbrev pub setNumbers : Unit → List ℕ → Unit
+setNumbers x ks = record { layout = x .layout; config = x .config; numbers = ks; words = x .words; values = x .values; fixed = x .fixed; counts = x .counts }
+
+abbrev pub setWords : Unit → List ℕ → Unit
+setWords x ws = record { layout = x .layout; config = x .config; numbers = x .numbers; words = ws; values = x .values; fixed = x .fixed; counts = x .counts }
+
+abbrev pub setValues : Unit → List ℕ → Unit
+setValues x vs = record { layout = x .layout; config = x .config; numbers = x .numbers; words = x .words; values = vs; fixed = x .fixed; counts = x .counts }
+
+abbrev pub setFixed : Unit → List ℕ → Unit
+setFixed x fs = record { layout = x .layout; config = x .config; numbers = x .numbers; words = x .words; values = x .values; fixed = fs; counts = x .counts }
+
+abbrev pub setCounts : Unit → List ℕ → Unit
+setCounts x ns = record { layout = x .layout; config = x .config; numbers = x .numbers; words = x .words; values = x .values; fixed = x .fixed; counts = ns }
+
+-- ---- characters written into a region, every other left; nothing, where they would not lie in it
+
+-- characters from character i of region k on
+unfoldable pub putIn : List ℕ → ℕ → ℕ → List ℕ → List ℕ
+putIn u k i ys = cond (leb (i + length ys) (getD unitSizes k 0)) (put u (startOf k + i) ys) u
+
+abbrev pub putNumber : List ℕ → ℕ → ℕ → List ℕ
+putNumber u i v = putIn u numbersRegion (2 * i) (word v)
+
+abbrev pub putWord : List ℕ → ℕ → ℕ → List ℕ
+putWord u n v = putIn u wordsRegion (2 * n) (word v)
+
+abbrev pub putValue : List ℕ → ℕ → ℕ → List ℕ
+putValue u n v = putIn u resultsRegion (4 * n) (value v)
+
+abbrev pub putFixed : List ℕ → ℕ → List ℕ → List ℕ
+putFixed u at ys = putIn u fixedRegion at ys
+
+abbrev pub putCount : List ℕ → ℕ → ℕ → List ℕ
+putCount u f n = putIn u countsRegion f (n ∷ [])
+
+-- all counts anew
+abbrev pub putCounts : List ℕ → List ℕ → List ℕ
+putCounts u ns = putIn u countsRegion 0 ns
+
+-- the kept numbers
+abbrev pub numbersIn : List ℕ → List ℕ
+numbersIn u = unitIn u .numbers
+
+-- a memory v that means what u means, but for the kept numbers, and is as long
+pub record Renumbered (u v ks : List ℕ) : Type 0 where
+  pub means : unitIn v ≡ setNumbers (unitIn u) ks
+  pub long : length v ≡ length u
+
+-- the same, whatever the numbers are now
+abbrev pub NumbersOnly : List ℕ → List ℕ → Type 0
+NumbersOnly u v = Renumbered u v (numbersIn v)
+
+-- ---- characters written into those of a configuration: its unit number, an input equipped
+
+abbrev pub nameUnit : List ℕ → ℕ → List ℕ
+nameUnit cs n = put cs (startIn configSizes 0) (word n)
+
+abbrev pub equipInput : List ℕ → ℕ → List ℕ
+equipInput cs n = put cs (startIn configSizes 2 + n) (1 ∷ [])
+
+-- what the characters of a configuration mean
+abbrev pub configGiven : List ℕ → Config
+configGiven cs = configOf (regionIn (0 ∷ configSizes) cs)
+
+-- ---- a unit with nothing in it but a configuration
+
+-- its characters: this layout's number, those of the configuration, and 0 behind them
+unfoldable pub blankUnit : List ℕ → List ℕ
+blankUnit cs = put (put (replicate unitLong 0) (startOf layoutRegion) (word layoutNumber)) (startOf numberRegion) cs
+
+-- what they mean
+abbrev pub blankOf : Config → Unit
+blankOf c =
+    record {
+      layout = layoutNumber;
+      config = c;
+      numbers = replicate 26 0;
+      words = replicate 256 0;
+      values = replicate 128 0;
+      fixed = replicate 528 0;
+      counts = replicate 32 0;
+    }
+
+-- ---- the room for records, which is a memory of its own
+
+-- how many characters of records a configuration asks for: each of 32 files has room for 32 of the longest (History 4)
+unfoldable pub roomOf : Config → ℕ
+roomOf c = 32 * (fileRoom * longestRecord)

@@ -1,0 +1,112 @@
+-- What a unit's memory means after an event on a point that met its promise: the point's area as the model has it, all else as it was.
+-- Assumes nothing.
+use mathlib.Core.Path.{_≡_, refl, ap, _∙_}
+use Prim.Native.Nat.{ℕ, _+_, _%_, _<_}
+use native.Mathlib.Omega.{arith}
+use mathlib.Core.List.{List, []}
+use mathlib.Core.Bool.{Bool, true, false, cond}
+use lib.ListN.{length, getD, set}
+use lib.Dec.{eqb, lit<}
+use Rattle.model.proofs.Conditions.{by-bool, by-eqb, and-right}
+use Rattle.model.specs.Outcome.{numberOf}
+use Rattle.model.specs.Frame.{Request}
+use Rattle.model.specs.Config.{has, accumulator, hasCalculation}
+use Rattle.model.specs.Scan.{Fills}
+use Rattle.model.specs.Inputs.{Changed, changes, unchanged, hasAccumulator, setWordOf, pulsesOf, resetCountOf}
+use Rattle.model.specs.Calculations.{setValueOf}
+use Rattle.model.specs.declared.Outcome.{Outcome}
+use Rattle.model.specs.declared.Outcome.the-variants.{NotValid, WrongCount}
+use Rattle.model.specs.declared.Filled.{Filled}
+use Rattle.layout.specs.Unit.{unitSizes, unitLong, inputsRegion, configOf, unitOf, unitIn, configIn, setWords, setValues, putIn, putWord, putValue}
+use Rattle.layout.proofs.UnitLaws.{length-put-in, region-size, word-written, value-written}
+use Rattle.points.specs.Answer.{Sets, replyOf}
+use Rattle.points.proofs.NumberLaws.{has-below, calculation-below}
+use Rattle.points.proofs.ChangeLaws.{word-set, word-other, word-missing, pulses-added, pulses-missing, value-set, value-missing, reset-miscounted, reset-missing, reset-done}
+
+-- ---- how long the memory is
+
+long-either : (b : Bool) (u w : List ℕ) → length w ≡ length u → length (cond b w u) ≡ length u
+long-either true u w e = e
+long-either false u w e = refl
+
+-- set_word, pulses, set_value
+pub sets-long : {m : Changed} {u v : List ℕ} {r : Outcome} (k i : ℕ) (ys : List ℕ) → Sets m u (putIn u k i ys) v r → length v ≡ length u
+sets-long {u = u} {r = r} k i ys p = ap length (p .left) ∙ long-either (eqb (numberOf r) 0) u (putIn u k i ys) (length-put-in u k i ys)
+
+-- reset_count is the same promise
+pub reset-sets : {entry exit v : List ℕ} {r : Filled} (m : Changed) (u w : List ℕ)
+    → Fills entry exit (replyOf m) r × (v ≡ cond (eqb (numberOf (r .outcome)) 0) w u) → Sets m u w v (r .outcome)
+reset-sets m u w p = record { ended = p .0 .ended; left = p .1 }
+
+-- ---- done, or left
+
+done : {m : Changed} {u w v : List ℕ} {r : Outcome} (ys area : List ℕ) → Sets m u w v r → m ≡ changes ys area → v ≡ w
+done ys area p e = rw (p .ended ∙ ap (λ (x : Changed). x .outcome) e) at (p .left)
+
+kept : {m : Changed} {u w v : List ℕ} {r : Outcome} (o : Outcome) (area : List ℕ) → eqb (numberOf o) 0 ≡ false → Sets m u w v r → m ≡ unchanged o area → v ≡ u
+kept o area z p e = rw z at (rw (p .ended ∙ ap (λ (x : Changed). x .outcome) e) at (p .left))
+
+-- ---- what it means
+
+accumulator-has : (table : List ℕ) (n : ℕ) → hasAccumulator table n ≡ true → has table n ≡ true
+unfolding hasAccumulator
+accumulator-has table n e = and-right (accumulator n) (has table n) e
+
+-- an area kept, or one element of it set, by what m came to
+module _ (u : List ℕ) (long : length u ≡ unitLong) where
+  input-below : (n : ℕ) → has (configIn u .inputs) n ≡ true → n < 256
+  unfolding unitSizes unitOf configOf
+  input-below n e = omega (arith, has-below _ n e, region-size u long inputsRegion (lit< tt))
+
+  module _ {m : Changed} {v : List ℕ} {r : Outcome} where
+    words-kept : {x : List ℕ} (o : Outcome) → eqb (numberOf o) 0 ≡ false → Sets m u x v r → m ≡ unchanged o (unitIn u .words)
+        → unitIn v ≡ setWords (unitIn u) (m .area)
+    unfolding unitOf
+    words-kept o z p e = rw (kept o _ z p e, e)
+
+    word-done : (n w : ℕ) (ys : List ℕ) → n < 256 → Sets m u (putWord u n w) v r → m ≡ changes ys (set (unitIn u .words) n w)
+        → unitIn v ≡ setWords (unitIn u) (m .area)
+    word-done n w ys h p e = rw (done ys _ p e, e) (word-written u long n w h)
+
+    values-kept : {x : List ℕ} (o : Outcome) → eqb (numberOf o) 0 ≡ false → Sets m u x v r → m ≡ unchanged o (unitIn u .values)
+        → unitIn v ≡ setValues (unitIn u) (m .area)
+    unfolding unitOf
+    values-kept o z p e = rw (kept o _ z p e, e)
+
+    value-done : (n w : ℕ) (ys : List ℕ) → n < 128 → Sets m u (putValue u n w) v r → m ≡ changes ys (set (unitIn u .values) n w)
+        → unitIn v ≡ setValues (unitIn u) (m .area)
+    value-done n w ys h p e = rw (done ys _ p e, e) (value-written u long n w h)
+
+  module _ {v : List ℕ} {r : Outcome} (n w : ℕ) where
+    pub set-word-means : Sets (setWordOf (configIn u .inputs) (unitIn u .words) n w) u (putWord u n w) v r
+        → unitIn v ≡ setWords (unitIn u) (setWordOf (configIn u .inputs) (unitIn u .words) n w .area)
+    set-word-means p =
+        by-bool (has (configIn u .inputs) n)
+        (λ e. by-bool (accumulator n)
+        (λ f. words-kept NotValid refl p (word-other _ _ n w e f))
+        (λ f. word-done n w [] (input-below n e) p (word-set _ _ n w e f)))
+        (λ e. words-kept NotValid refl p (word-missing _ _ n w e))
+
+    pub pulses-means : Sets (pulsesOf (configIn u .inputs) (unitIn u .words) n w) u (putWord u n ((getD (unitIn u .words) n 0 + w) % 65536)) v r
+        → unitIn v ≡ setWords (unitIn u) (pulsesOf (configIn u .inputs) (unitIn u .words) n w .area)
+    pulses-means p =
+        by-bool (hasAccumulator (configIn u .inputs) n)
+        (λ e. word-done n _ [] (input-below n (accumulator-has _ n e)) p (pulses-added _ _ n w e))
+        (λ e. words-kept NotValid refl p (pulses-missing _ _ n w e))
+
+    pub set-value-means : Sets (setValueOf (configIn u .calculations) (unitIn u .values) n w) u (putValue u n w) v r
+        → unitIn v ≡ setValues (unitIn u) (setValueOf (configIn u .calculations) (unitIn u .values) n w .area)
+    set-value-means p =
+        by-bool (hasCalculation (configIn u .calculations) n)
+        (λ e. value-done n w [] (calculation-below _ n e) p (value-set _ _ n w e))
+        (λ e. values-kept NotValid refl p (value-missing _ _ n w e))
+
+  pub reset-count-means : {v : List ℕ} {r : Outcome} (q : Request)
+      → Sets (resetCountOf (configIn u .inputs) (unitIn u .words) q) u (putWord u (getD (q .body) 0 0) 0) v r
+      → unitIn v ≡ setWords (unitIn u) (resetCountOf (configIn u .inputs) (unitIn u .words) q .area)
+  reset-count-means q p =
+      by-eqb (length (q .body)) 1
+      (λ h. by-bool (hasAccumulator (configIn u .inputs) (getD (q .body) 0 0))
+      (λ e. word-done _ 0 (q .body) (input-below _ (accumulator-has _ _ e)) p (reset-done _ _ q h e))
+      (λ e. words-kept NotValid refl p (reset-missing _ _ q h e)))
+      (λ h. words-kept WrongCount refl p (reset-miscounted _ _ q h))
