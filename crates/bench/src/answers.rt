@@ -54,7 +54,7 @@ fn wait<'a>(unit: &mut [u8; UNIT], records: &'a [u8], ms: u32) -> Ended
     ensures { λ r. ⌜ r .sent ≡ 0 ⌝ }
 {
     let block = [0u8; 0];
-    let outcome = events::elapsed(unit, &block, records, ms);
+    let outcome = unit::elapsed(unit, &block, records, ms);
     Ended {
         outcome: outcomes::number(outcome),
         sent: 0,

@@ -20,8 +20,8 @@ use Rattle.model.proofs.Conditions.{by-bool}
 use Rattle.model.proofs.TurnedAway.{short-away, works, made-row}
 use Rattle.model.proofs.Valid.{fresh-fits, step-fits}
 use Rattle.layout.specs.Unit.{configIn, configGiven, roomOf}
-use Rattle.events.specs.Kept.{Kept, stateOf, Owned, ownedOf, keptIn, standing}
-use Rattle.unit.specs.Fresh.{Freshly}
+use Rattle.serve.specs.Kept.{Kept, stateOf, Owned, ownedOf, keptIn, standing}
+use Rattle.unit.specs.Fresh.{FreshPromise}
 use Rattle.unit.specs.Calls.{Calls, none as noCalls, heard as heardCall, heeded as heededCall}
 use Rattle.unit.proofs.FreshLaws.{laid-config, laid-state, laid-stands}
 use Rattle.unit.proofs.CallLaws.{results as resultsOf, calls-after, calls-trace}
@@ -78,7 +78,7 @@ trace-taken c s (e ∷ es) f g = one (result-row c s e f) (trace-taken c (nextOf
 -- ---- from a fresh unit
 
 -- its configuration's characters, a parameter block as long as they say, and the room for records that they ask for
-module _ (cs : List ℕ) {n : ℕ} (said : n ≡ configGiven cs .block) {u bl : List ℕ} (area : List ℕ) (f : Freshly cs n u bl) (room : roomOf (configIn u) ≤ length area) where
+module _ (cs : List ℕ) {n : ℕ} (said : n ≡ configGiven cs .block) {u bl : List ℕ} (area : List ℕ) (f : FreshPromise cs n u bl) (room : roomOf (configIn u) ≤ length area) where
   module _ {es : List Event} {xs : List Shown} {y : Owned} (r : Runs (ownedOf u bl area) es xs y) where
     ran : RunsAs (ownedOf u bl area) es xs y
     ran = runs-as (laid-stands cs said area f room) r

@@ -11,7 +11,7 @@ use Rattle.model.specs.Outcome.{numberOf}
 use Rattle.model.specs.declared.ControlOutput.{ControlOutput}
 use Rattle.model.specs.declared.Action.{Action}
 use Rattle.model.specs.declared.Action.the-variants.{Rest, Operate}
-use Rattle.commands.specs.declared.Made.{Made}
+use Rattle.serve.specs.declared.Made.{Made}
 use Rattle.unit.specs.Calls.{shownBy}
 use Rattle.board.specs.Told.{turnedBy, actionNumber, outputNumber}
 use Rattle.board.specs.Runs.{Shown, numbered, shownIn}

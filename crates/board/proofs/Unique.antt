@@ -8,10 +8,10 @@ use Rattle.chars.specs.Word.{Characters}
 use Rattle.model.specs.Outcome.{numberOf, answerNumber}
 use Rattle.model.specs.Step.{Event}
 use Rattle.layout.specs.Unit.{unitLong}
-use Rattle.events.specs.Kept.{Owned}
-use Rattle.events.proofs.Unique.{one-telling}
-use Rattle.commands.specs.declared.Made.{Made}
-use Rattle.unit.proofs.Unique.{one-serve}
+use Rattle.serve.specs.Kept.{Owned}
+use Rattle.serve.proofs.Unique.{one-stretch}
+use Rattle.unit.proofs.Unique.{one-event}
+use Rattle.serve.specs.declared.Made.{Made}
 use Rattle.board.specs.Told.{turnedBy, Shows, Says}
 
 module _ (x y z : Owned) (long : length (x .unit) ≡ unitLong) (p : Characters (y .unit)) (q : Characters (z .unit)) where
@@ -19,7 +19,7 @@ module _ (x y z : Owned) (long : length (x .unit) ≡ unitLong) (p : Characters 
   pub one-showing : (s entry : List ℕ) {exit exit′ ts ts′ : List ℕ} {n m : ℕ} → Shows s x y entry exit n ts → Shows s x z entry exit′ m ts′
       → (n ≡ m) × (ts ≡ ts′) × (exit ≡ exit′) × (y ≡ z)
   one-showing s entry a b =
-      let w = one-serve s x y z entry long p q (a .serves) (b .serves) in (
+      let w = one-stretch s x y z entry long p q (a .serves) (b .serves) in (
         a .number ∙ ap (λ (u : Made). numberOf (u .outcome)) (w .0) ∙ sym (b .number),
         a .told ∙ ap turnedBy (w .0) ∙ sym (b .told),
         w .1,
@@ -29,4 +29,4 @@ module _ (x y z : Owned) (long : length (x .unit) ≡ unitLong) (p : Characters 
   -- osturdam_elapsed, osturdam_set_word, osturdam_pulses, osturdam_set_value, osturdam_store_record
   pub one-saying : (e : Event) {n m : ℕ} → Says e x y n → Says e x z m → (n ≡ m) × (y ≡ z)
   one-saying e a b =
-      let w = one-telling e x y z long p q (a .tells) (b .tells) in (a .said ∙ ap answerNumber (w .0) ∙ sym (b .said), w .1)
+      let w = one-event e x y z long p q (a .tells) (b .tells) in (a .said ∙ ap answerNumber (w .0) ∙ sym (b .said), w .1)

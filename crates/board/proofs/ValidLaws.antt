@@ -17,7 +17,7 @@ use Rattle.numbers.proofs.NumbersLaws.{written-readable}
 use Rattle.layout.specs.Unit.{Unit, unitIn, configIn, numbersIn, configGiven, roomOf}
 use Rattle.judge.specs.Judged.{fitsBy, fitsIn}
 use Rattle.judge.proofs.JudgedLaws.{fits-by}
-use Rattle.unit.specs.Fresh.{Freshly}
+use Rattle.unit.specs.Fresh.{FreshPromise}
 use Rattle.unit.proofs.FreshLaws.{fresh-written}
 
 none-held : (n f : ℕ) → length (heldIn (replicate n []) f) ≡ getD (replicate {A = ℕ} n 0) f 0
@@ -30,7 +30,7 @@ fresh-valid : (c : Config) → fits c (freshOf c) ≡ validOf c
 fresh-valid c = by-bool (validOf c) (λ e. fresh-fits c e ∙ sym e) (λ e. let z : fits c (freshOf c) ≡ false = unfold fits in rw e refl in z ∙ sym e)
 
 -- judged with a block as long as its configuration says and the room that it asks for
-fresh-taken : (cs : List ℕ) {n lent room : ℕ} {u bl : List ℕ} → Freshly cs n u bl → lent ≡ configIn u .block → room ≡ roomOf (configIn u)
+fresh-taken : (cs : List ℕ) {n lent room : ℕ} {u bl : List ℕ} → FreshPromise cs n u bl → lent ≡ configIn u .block → room ≡ roomOf (configIn u)
     → fitsIn u lent room ≡ validOf (configGiven cs)
 unfolding fitsIn freshOf freshAreas freshHistory
 fresh-taken cs {n} {lent} {room} {u} f l r =
@@ -45,7 +45,7 @@ fresh-taken cs {n} {lent} {room} {u} f l r =
     ∙ fits-by c (c .block) (replicate 32 0) freshCore Nothing freshPort (freshAreas c) (replicate 32 []) (length-replicate {A = ℕ} (c .block) 0) (λ g h. none-held 32 g)
     ∙ fresh-valid c)
 
-module _ (cs : List ℕ) {n lent room : ℕ} {u bl : List ℕ} (f : Freshly cs n u bl) (l : lent ≡ configIn u .block) (r : room ≡ roomOf (configIn u)) where
+module _ (cs : List ℕ) {n lent room : ℕ} {u bl : List ℕ} (f : FreshPromise cs n u bl) (l : lent ≡ configIn u .block) (r : room ≡ roomOf (configIn u)) where
   pub told-valid : {k : ℕ} → k ≡ 1 → fitsIn u lent room ≡ true → k ≡ cond (validOf (configGiven cs)) 1 0
   told-valid o e = rw (sym (fresh-taken cs f l r) ∙ e) o
 

@@ -8,10 +8,10 @@ use Rattle.model.specs.Step.{Event}
 use Rattle.model.specs.declared.Answer.{Answer}
 use Rattle.model.specs.declared.Action.{Action}
 use Rattle.model.specs.declared.Action.the-variants.{Rest, Operate}
-use Rattle.events.specs.Kept.{Owned}
-use Rattle.events.specs.Heed.{Tells}
-use Rattle.unit.specs.Turn.{Serves}
-use Rattle.commands.specs.declared.Made.{Made}
+use Rattle.serve.specs.Kept.{Owned}
+use Rattle.unit.specs.Events.{EventPromise}
+use Rattle.serve.specs.Stretch.{StretchPromise}
+use Rattle.serve.specs.declared.Made.{Made}
 
 -- ---- a stretch
 
@@ -30,7 +30,7 @@ turnedBy m = m .sent % 256 ∷ m .sent / 256 % 256 ∷ actionNumber (m .action) 
 -- the turn of the unit's entry, in numbers
 pub record Shows (s : List ℕ) (x y : Owned) (entry exit : List ℕ) (n : ℕ) (ts : List ℕ) : Type 0 where
   pub turn : Made
-  pub serves : Serves s x y entry exit turn
+  pub serves : StretchPromise s x y entry exit turn
   pub number : n ≡ numberOf (turn .outcome)
   pub told : ts ≡ turnedBy turn
 
@@ -38,5 +38,5 @@ pub record Shows (s : List ℕ) (x y : Owned) (entry exit : List ℕ) (n : ℕ) 
 
 pub record Says (e : Event) (x y : Owned) (n : ℕ) : Type 0 where
   pub answer : Answer
-  pub tells : Tells e x y answer
+  pub tells : EventPromise e x y answer
   pub said : n ≡ answerNumber answer

@@ -18,8 +18,8 @@ ghost use lib.ListN.{length};
 ghost use Rattle.model.specs.Config.{validOf};
 ghost use Rattle.model.specs.Step.{elapsed, setWord, setValue, pulses, store};
 ghost use Rattle.layout.specs.Unit.{layoutNumber, configGiven};
-ghost use Rattle.events.specs.Kept.{ownedOf};
-ghost use Rattle.unit.specs.Fresh.{Freshly};
+ghost use Rattle.serve.specs.Kept.{ownedOf};
+ghost use Rattle.unit.specs.Fresh.{FreshPromise};
 ghost use Rattle.board.specs.Told.{Shows, Says};
 
 // The number of the layout that a unit's memory has.
@@ -48,7 +48,7 @@ pub extern "C" fn osturdam_valid(config: &[u8; CONFIG]) -> u8
 
 #[no_mangle]
 pub extern "C" fn osturdam_fresh(unit: &mut [u8; UNIT], block: &mut [u8], config: &[u8; CONFIG])
-    ensures { λ _. ⌜ Freshly (now (config .entry)) (length (now (block .entry))) (now (unit .exit)) (now (block .exit)) ⌝ }
+    ensures { λ _. ⌜ FreshPromise (now (config .entry)) (length (now (block .entry))) (now (unit .exit)) (now (block .exit)) ⌝ }
 {
     unit::fresh(unit, block, config);
 }
@@ -90,7 +90,7 @@ pub extern "C" fn osturdam_elapsed<'a>(
         (ownedOf (now (unit .entry)) (now (block .entry)) (now (records .entry)))
         (ownedOf (now (unit .exit)) (now (block .entry)) (now (records .entry))) r ⌝ }
 {
-    let outcome = events::elapsed(unit, block, records, ms);
+    let outcome = unit::elapsed(unit, block, records, ms);
     number(outcome)
 }
 
@@ -106,7 +106,7 @@ pub extern "C" fn osturdam_set_word<'a>(
         (ownedOf (now (unit .entry)) (now (block .entry)) (now (records .entry)))
         (ownedOf (now (unit .exit)) (now (block .entry)) (now (records .entry))) r ⌝ }
 {
-    let outcome = events::set_word(unit, block, records, Input(input), word);
+    let outcome = unit::set_word(unit, block, records, Input(input), word);
     number(outcome)
 }
 
@@ -122,7 +122,7 @@ pub extern "C" fn osturdam_pulses<'a>(
         (ownedOf (now (unit .entry)) (now (block .entry)) (now (records .entry)))
         (ownedOf (now (unit .exit)) (now (block .entry)) (now (records .entry))) r ⌝ }
 {
-    let outcome = events::pulses(unit, block, records, Input(accumulator), count);
+    let outcome = unit::pulses(unit, block, records, Input(accumulator), count);
     number(outcome)
 }
 
@@ -138,7 +138,7 @@ pub extern "C" fn osturdam_set_value<'a>(
         (ownedOf (now (unit .entry)) (now (block .entry)) (now (records .entry)))
         (ownedOf (now (unit .exit)) (now (block .entry)) (now (records .entry))) r ⌝ }
 {
-    let outcome = events::set_value(unit, block, records, SpecialCalculation(calculation), value);
+    let outcome = unit::set_value(unit, block, records, SpecialCalculation(calculation), value);
     number(outcome)
 }
 
@@ -155,6 +155,6 @@ pub extern "C" fn osturdam_store_record<'a>(
         (ownedOf (now (unit .entry)) (now (block .entry)) (now (records .entry)))
         (ownedOf (now (unit .exit)) (now (block .entry)) (now (records .exit))) r ⌝ }
 {
-    let answer = events::store_record(unit, block, records, File(file), event, given);
+    let answer = unit::store_record(unit, block, records, File(file), event, given);
     answer_number(answer)
 }

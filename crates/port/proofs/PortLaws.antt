@@ -7,26 +7,20 @@ use mathlib.Core.Bool.{false}
 use lib.ListN.{length}
 use lib.Dec.{eqb}
 use borrow.Author.Tests.{ne-eqb}
-use Rattle.model.specs.Outcome.{sendingOf, damaged}
-use Rattle.model.specs.Step.{stretch, elapsed, Sent, silent, said, answered, Made}
+use Rattle.model.specs.Outcome.{damaged}
+use Rattle.model.specs.Step.{stretch, elapsed, Sent, silent, said, Made}
 use Rattle.model.specs.Refusal.{replies}
 use Rattle.model.specs.Port.{damageMark, markAfter, silentAfter, portAfter}
 use Rattle.model.specs.declared.Outcome.{Outcome}
 use Rattle.model.specs.declared.Answer.the-variants.{Ended}
 use Rattle.model.specs.declared.Mark.{Mark}
 use Rattle.model.specs.declared.Port.{Port}
-use Rattle.replies.specs.Ends.{markBy, portBy}
 use Rattle.port.specs.Lent.{isSo, markHeard, heardOf}
 
 -- after an elapsed time (Frames 13)
 pub waited-after : (p : Port) (ms : ℕ) (m : Made) → silentAfter p ms ≡ portAfter p (elapsed ms) m
 unfolding portAfter
 waited-after p ms m = refl
-
--- by the outcome alone, as a frame ends
-pub heard-by : (p : Port) (s : List ℕ) (o : Outcome) (a d : ℕ) → isSo a ≡ answered (sendingOf o) → isSo d ≡ damaged o → heardOf p (length s) a d ≡ portBy p s o
-unfolding heardOf markHeard portBy markBy
-heard-by p s o a d e f = rw (e, f)
 
 mark-after : (k : Mark) (o : Outcome) (x : Sent) (a d : ℕ) → isSo a ≡ replies x → isSo d ≡ damaged o → markHeard k a d ≡ markAfter k (Ended o) x
 unfolding markHeard markAfter damageMark replies

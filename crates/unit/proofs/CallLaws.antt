@@ -17,11 +17,11 @@ use Rattle.model.specs.declared.Stored.the-variants.{Kept as KeptRecord, Full, 
 use Rattle.model.specs.declared.Answer.{Answer}
 use Rattle.model.specs.declared.Port.{Port}
 use Rattle.model.specs.declared.Action.the-variants.{Rest}
-use Rattle.events.specs.Kept.{Kept, stateOf}
-use Rattle.events.specs.Heed.{Heeds}
-use Rattle.unit.specs.Turn.{Turns}
+use Rattle.serve.specs.Kept.{Kept, stateOf}
+use Rattle.unit.specs.Events.{Heeds}
+use Rattle.serve.specs.Stretch.{Turns}
 use Rattle.unit.specs.Calls.{Local, shownBy, answeredBy, Calls, none, heard, heeded}
-use Rattle.commands.specs.declared.Made.{Made}
+use Rattle.serve.specs.declared.Made.{Made}
 
 -- what the entries of a trace show
 unfoldable pub results : List Entry → List Result

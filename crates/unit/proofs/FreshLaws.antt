@@ -37,8 +37,8 @@ use Rattle.layout.specs.Unit.{unitLong, configLong, layoutNumber, Unit, unitIn,
 use Rattle.layout.specs.Regions.{startIn}
 use Rattle.layout.proofs.UnitLaws.{renumbered-then}
 use Rattle.layout.proofs.BlankLaws.{blank-long, blank-means}
-use Rattle.events.specs.Kept.{keptOf, stateOf, ownedOf, keptIn, standing}
-use Rattle.unit.specs.Fresh.{freshUnit, Freshly}
+use Rattle.serve.specs.Kept.{keptOf, stateOf, ownedOf, keptIn, standing}
+use Rattle.unit.specs.Fresh.{freshUnit, FreshPromise}
 
 -- ---- the loop
 
@@ -105,7 +105,7 @@ fresh-kept cs {u} {v} {w} l e a b =
 -- ---- the state
 
 -- a unit that was laid of a configuration's characters, with a parameter block as long as they say
-module _ (cs : List ℕ) {n : ℕ} (as-said : n ≡ configGiven cs .block) {u bl : List ℕ} (area : List ℕ) (f : Freshly cs n u bl) where
+module _ (cs : List ℕ) {n : ℕ} (as-said : n ≡ configGiven cs .block) {u bl : List ℕ} (area : List ℕ) (f : FreshPromise cs n u bl) where
   pub laid-config : configIn u ≡ configGiven cs
   laid-config = ap (λ (x : Unit). x .config) (f .means)
 

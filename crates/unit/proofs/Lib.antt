@@ -1,6 +1,6 @@
--- The laws that the proofs of this crate cite.
+-- The laws that the proofs of this crate and of its users cite.
+pub mod HeedLaws
+pub mod EventLaws
 pub mod FreshLaws
-pub mod MarkLaws
-pub mod TurnLaws
-pub mod Unique
 pub mod CallLaws
+pub mod Unique

@@ -9,10 +9,10 @@ use Rattle.model.specs.Run.{Result}
 use Rattle.model.specs.declared.Answer.{Answer}
 use Rattle.model.specs.declared.Answer.the-variants.{Ended}
 use Rattle.model.specs.declared.Action.the-variants.{Rest}
-use Rattle.events.specs.Kept.{Kept}
-use Rattle.events.specs.Heed.{Heeds}
-use Rattle.unit.specs.Turn.{Turns}
-use Rattle.commands.specs.declared.Made.{Made}
+use Rattle.serve.specs.Kept.{Kept}
+use Rattle.unit.specs.Events.{Heeds}
+use Rattle.serve.specs.Stretch.{Turns}
+use Rattle.serve.specs.declared.Made.{Made}
 
 -- no stretch: time or a local event
 unfoldable pub Local : Event → Type 0

@@ -14,7 +14,7 @@ abbrev pub freshUnit : Config → Unit
 freshUnit c = setNumbers (blankOf c) (numbersOf freshCore Nothing freshPort)
 
 -- made of the characters cs of a configuration and a parameter block of that length
-pub record Freshly (cs : List ℕ) (long : ℕ) (u block : List ℕ) : Type 0 where
+pub record FreshPromise (cs : List ℕ) (long : ℕ) (u block : List ℕ) : Type 0 where
   pub means : unitIn u ≡ freshUnit (configGiven cs)
   pub long-is : length u ≡ unitLong
   pub block-cleared : block ≡ replicate long 0

@@ -1,3 +1,3 @@
+pub mod Events
 pub mod Fresh
-pub mod Turn
 pub mod Calls

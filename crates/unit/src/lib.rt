@@ -1,6 +1,13 @@
-// The entry of the line, which turns a stretch away or does what the definition's step says; and a fresh unit.
-mod line;
+// The entries of a unit, over all that its owner lends: fresh, a stretch, time, and the local events.
+mod lent;
+mod local;
 mod start;
+mod time;
 
-pub use line::stretch;
+pub use local::pulses;
+pub use local::set_value;
+pub use local::set_word;
+pub use local::store_record;
+pub use serve::stretch;
 pub use start::fresh;
+pub use time::elapsed;

@@ -1,9 +1,10 @@
 // A fresh unit: the configuration laid into its memory, and all that is kept. The characters of records need no clearing: none is counted.
+use super::lent::told_long;
 use layout::CONFIG;
 use layout::UNIT;
 ghost use mathlib.Core.Path.{_≡_};
 ghost use lib.ListN.{length, replicate};
-ghost use Rattle.unit.specs.Fresh.{Freshly};
+ghost use Rattle.unit.specs.Fresh.{FreshPromise};
 
 fn zero(block: &mut [u8])
     ensures { λ _. ⌜ now (block .exit) ≡ replicate (length (now (block .entry))) 0 ⌝ }
@@ -15,12 +16,9 @@ fn zero(block: &mut [u8])
     }
 }
 
-// Nothing is done: an array that is lent as a slice tells its length.
-fn told_long(unit: &[u8]) {}
-
 // Day 1 of the clock and the configure bit: every other number of a fresh unit is 0.
 pub fn fresh(unit: &mut [u8; UNIT], block: &mut [u8], config: &[u8; CONFIG])
-    ensures { λ _. ⌜ Freshly (now (config .entry)) (length (now (block .entry))) (now (unit .exit)) (now (block .exit)) ⌝ }
+    ensures { λ _. ⌜ FreshPromise (now (config .entry)) (length (now (block .entry))) (now (unit .exit)) (now (block .exit)) ⌝ }
 {
     told_long(config);
     layout::begin(unit, config);

@@ -2,7 +2,7 @@
 use mathlib.Core.Path.{sym}
 use lib.Seq.{length-take-le}
 use native.Mathlib.Omega.{arith}
-use Rattle.unit.proofs.TurnLaws.{sent-inside}
+use Rattle.serve.proofs.StretchLaws.{sent-inside}
 use borrow.Author.Needs.{needs}
 use Rattle.bench.proofs.answers.hear.Statement.{statement}
 use Rattle.bench.proofs.answers.hear.Tie as tie

@@ -1,3 +1,0 @@
-pub mod Kept
-pub mod Changes
-pub mod Heed

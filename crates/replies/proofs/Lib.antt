@@ -1,3 +1,0 @@
--- The laws that the proofs of this crate and of its users cite.
-pub mod ReplyLaws
-pub mod Unique

@@ -1,0 +1,13 @@
+-- The laws that the proofs of this crate and of its users cite.
+pub mod KeptLaws
+pub mod FitLaws
+pub mod EndingLaws
+pub mod TameLaws
+pub mod CommandLaws
+pub mod BroadcastLaws
+pub mod StepLaws
+pub mod TellingLaws
+pub mod ServedLaws
+pub mod MarkLaws
+pub mod StretchLaws
+pub mod Unique

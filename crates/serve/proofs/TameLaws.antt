@@ -1,0 +1,266 @@
+-- What every function says fits a reply, and is answered. Assumes nothing.
+use mathlib.Core.Path.{_≡_, refl, sym, _∙_}
+use Prim.Native.Nat.{ℕ, _≤_, _+_, _*_, _<_, min}
+use native.Mathlib.Omega.{arith}
+use mathlib.Core.List.{List, []}
+use mathlib.Core.Bool.{true, Bool, false, not, _&&_, _||_, Bool·beq}
+use lib.ListN.{length, getD}
+use lib.Dec.{eqb, leb, ltb}
+use borrow.Author.Tests.{eqb-true, leb-true, ltb-true}
+use Rattle.chars.specs.Word.{wordAt}
+use Rattle.chars.proofs.PutLaws.{part-most}
+use Rattle.model.specs.Limits.{mostData, mostAsked}
+use Rattle.model.specs.Frame.{Request, masterOf}
+use Rattle.model.specs.Outcome.{sendingOf}
+use Rattle.model.specs.Scan.{Scan, counts, withNoData}
+use Rattle.model.specs.Inputs.{Changed, hasAccumulator, resetCountOf, unreserved, inputsOf}
+use Rattle.model.specs.Blocks.{reaches, blockOf, returned, readOf}
+use Rattle.model.specs.Clock.{timeChars, readTimeOf}
+use Rattle.model.specs.Step.{answered}
+use Rattle.model.specs.declared.Clock.{Clock}
+use Rattle.model.specs.declared.Outcome.{Outcome}
+use Rattle.model.proofs.Conditions.{by-cond, false-true, and-left, and-right, every-upFrom}
+use Rattle.serve.specs.Promises.{Tame}
+use native.Mathlib.Nat.{mul-le-mul-right, div-mul-le-self}
+use Rattle.chars.specs.Gather.{gather, upFrom}
+use Rattle.model.specs.Config.{Config, has, within, every, noneIn, fileValid, validOf, hasFile, sizeOf}
+use Rattle.model.specs.State.{History, heldIn}
+use Rattle.model.specs.Tables.{sendable, sendOf, tableScan, tablesOf}
+use Rattle.model.specs.Calculations.{fitting, valueOf, allOf, pairOf, missingOf, askedOf, calculationsOf}
+use Rattle.model.specs.Control.{Controlled, isOf, takes, selectWhen, operateWhen, resetWhen, selectOf, controlOf}
+use Rattle.model.specs.History.{Told, fileOf, dumps, acknowledges, untold, historyChars, mostOf, toldFrom, agrees, againWhen, historyOf}
+use Rattle.model.specs.declared.Hold.{Hold}
+use Rattle.model.specs.declared.Hold.the-variants.{Free, Held, TimedOut}
+use Rattle.model.specs.declared.Master.{Master}
+use Rattle.model.specs.declared.Memory.{Memory}
+use Rattle.model.specs.declared.Memory.the-variants.{Nothing, Remembered}
+use Rattle.model.specs.declared.Table.{Table}
+use Rattle.inputs.proofs.Fits.{inputs-fit}
+use Rattle.tables.proofs.Fits.{tables-fit}
+use Rattle.calculations.proofs.Fits.{calculations-fit}
+use Rattle.history.specs.Layout.{slot, baseOf, recordsIn, filesIn}
+use Rattle.history.specs.Tell.{cut, toldOn}
+use Rattle.history.proofs.HeldLaws.{take-held, flat-most}
+use Rattle.history.proofs.LayoutLaws.{held-files}
+
+pub tame : {o : Outcome} {ys : List ℕ} → answered (sendingOf o) ≡ true → length ys ≤ mostData → Tame o ys
+tame h s = record { quiet = λ e. false-true (sym e ∙ h); short = s }
+
+pub mute : {o : Outcome} → Tame o []
+mute = record { quiet = λ e. refl; short = omega arith }
+
+-- ---- 28h
+
+TameScan : Scan → Type 0
+TameScan x = Tame (x .outcome) (x .chars)
+
+returned-tame : (o : Outcome) (q : Request) → answered (sendingOf o) ≡ true → TameScan (returned o q)
+unfolding TameScan returned
+returned-tame o q h = tame h (omega (arith, part-most (q .body) 0 128))
+
+pub read-tame : (fixed block : List ℕ) (q : Request) → getD (q .body) 3 0 ≤ 255 → Tame (readOf fixed block q .outcome) (readOf fixed block q .chars)
+unfolding TameScan readOf answered
+read-tame fixed block q l =
+    by-cond TameScan (counts 4 q)
+    (λ e. by-cond TameScan (reaches fixed block (getD (q .body) 2 0) (wordAt (q .body) 0) (getD (q .body) 3 0))
+    (λ e. tame refl (omega (arith, part-most (blockOf fixed block (getD (q .body) 2 0)) (wordAt (q .body) 0) (getD (q .body) 3 0))))
+    (λ e. returned-tame _ q refl))
+    (λ e. returned-tame _ q refl)
+
+pub time-tame : (k : Clock) (q : Request) → Tame (readTimeOf k q .outcome) (readTimeOf k q .chars)
+unfolding TameScan readTimeOf withNoData timeChars answered
+time-tame k q = by-cond TameScan (counts 0 q) (λ e. tame refl (omega arith)) (λ e. mute)
+
+-- ---- 20h/11h
+
+TameChange : Changed → Type 0
+TameChange x = Tame (x .outcome) (x .chars)
+
+pub reset-tame : (table words : List ℕ) (q : Request) → Tame (resetCountOf table words q .outcome) (resetCountOf table words q .chars)
+unfolding TameChange resetCountOf counts answered
+reset-tame table words q =
+    by-cond TameChange (eqb (length (q .body)) 1)
+    (λ e. by-cond TameChange (hasAccumulator table (getD (q .body) 0 0)) (λ z. tame refl (omega (arith, eqb-true (length (q .body)) 1 e))) (λ z. mute))
+    (λ e. mute)
+
+-- ---- functions 00, 03 and 0Ah
+
+Says : Scan → Type 0
+Says x = answered (sendingOf (x .outcome)) ≡ true
+
+no-data-says : (q : Request) (r : Scan) → Says r → Says (withNoData q r)
+unfolding Says withNoData answered
+no-data-says q r h = by-cond Says (counts 0 q) (λ e. h) (λ e. refl)
+
+fitting-says : (ys : List ℕ) → Says (fitting ys)
+unfolding Says fitting answered
+fitting-says ys = by-cond Says (leb (length ys) mostData) (λ e. refl) (λ e. refl)
+
+asked-says : (table values ns : List ℕ) → Says (askedOf table values ns)
+unfolding Says askedOf answered
+asked-says table values ns = by-cond Says (eqb (length (gather (missingOf table) ns)) 0) (λ e. fitting-says (gather (pairOf values) ns)) (λ e. refl)
+
+calculations-says : (table values : List ℕ) (q : Request) → Says (calculationsOf table values q)
+unfolding Says calculationsOf allOf answered
+calculations-says table values q =
+    by-cond Says (eqb (q .command) 0x80) (λ e. no-data-says q _ (fitting-says (gather (valueOf table values) (upFrom 0 128))))
+    (λ e. by-cond Says (eqb (q .command) 0x00)
+    (λ e. by-cond Says (within 1 mostAsked (length (q .body))) (λ e. asked-says table values (q .body)) (λ e. refl))
+    (λ e. refl))
+
+inputs-says : (table words : List ℕ) (q : Request) → Says (inputsOf table words q)
+unfolding Says inputsOf answered
+inputs-says table words q = by-cond Says (unreserved (q .command)) (λ e. no-data-says q _ refl) (λ e. refl)
+
+send-says : (table area words : List ℕ) (one two own : Table) → Says (sendOf table area words one two own)
+unfolding Says sendOf answered
+send-says table area words one two own =
+    by-cond Says (sendable table area own && (sendable table area one && sendable table area two))
+    (λ e. by-cond Says (ltb 255 (one .quantity + two .quantity + own .quantity)) (λ e. refl) (λ e. refl))
+    (λ e. refl)
+
+tables-says : (table fixed words : List ℕ) (q : Request) → Says (tablesOf table fixed words q)
+unfolding Says tablesOf tableScan answered
+tables-says table fixed words q = by-cond Says (within 0x41 0x4F (q .command)) (λ e. no-data-says q _ (send-says _ _ _ _ _ _)) (λ e. refl)
+
+pub inputs-tame : (table words : List ℕ) (q : Request) → Tame (inputsOf table words q .outcome) (inputsOf table words q .chars)
+unfolding Says
+inputs-tame table words q = tame (inputs-says table words q) (inputs-fit table words q)
+
+pub calculations-tame : (table values : List ℕ) (q : Request) → Tame (calculationsOf table values q .outcome) (calculationsOf table values q .chars)
+unfolding Says
+calculations-tame table values q = tame (calculations-says table values q) (calculations-fit table values q)
+
+pub tables-tame : (table fixed words : List ℕ) (q : Request) → Tame (tablesOf table fixed words q .outcome) (tablesOf table fixed words q .chars)
+unfolding Says
+tables-tame table fixed words q = tame (tables-says table fixed words q) (tables-fit table fixed words q)
+
+-- ---- 10h
+
+TameControl : Controlled → Type 0
+TameControl x = Tame (x .outcome) (x .chars)
+
+takes-tame : (m : Master) (n : ℕ) (close : Bool) → TameControl (takes m n close)
+unfolding TameControl takes answered
+takes-tame m n close = tame refl (omega arith)
+
+when-tame : (h : Hold) (m : Master) (n : ℕ) (close : Bool) → TameControl (selectWhen h m n close)
+unfolding selectWhen TameControl
+when-tame Free m n close = takes-tame m n close
+when-tame (TimedOut p) m n close = takes-tame m n close
+when-tame (Held s) m n close = mute
+
+operate-tame : (h : Hold) (m : Master) → TameControl (operateWhen h m)
+unfolding operateWhen TameControl
+operate-tame Free m = mute
+operate-tame (TimedOut p) m = by-cond TameControl (isOf p m) (λ e. mute) (λ e. mute)
+operate-tame (Held s) m = by-cond TameControl (isOf (s .master) m) (λ e. mute) (λ e. mute)
+
+reset-when-tame : (h : Hold) → TameControl (resetWhen h)
+unfolding resetWhen TameControl
+reset-when-tame Free = mute
+reset-when-tame (TimedOut p) = mute
+reset-when-tame (Held s) = mute
+
+select-tame : (table : List ℕ) (h : Hold) (q : Request) (close : Bool) → TameControl (selectOf table h q close)
+unfolding selectOf TameControl
+select-tame table h q close =
+    by-cond TameControl (counts 1 q) (λ e. by-cond TameControl (has table (getD (q .body) 0 0)) (λ e. when-tame h _ _ close) (λ e. mute)) (λ e. mute)
+
+pub control-tame : (table : List ℕ) (h : Hold) (q : Request) → Tame (controlOf table h q .outcome) (controlOf table h q .chars)
+unfolding controlOf TameControl
+control-tame table h q =
+    by-cond TameControl (eqb (q .command) 0x10) (λ e. select-tame table h q false)
+    (λ e. by-cond TameControl (eqb (q .command) 0x11) (λ e. select-tame table h q true)
+    (λ e. by-cond TameControl (eqb (q .command) 0x20) (λ e. by-cond TameControl (counts 0 q) (λ e. operate-tame h (masterOf (q .address))) (λ e. mute))
+    (λ e. by-cond TameControl (eqb (q .command) 0x21) (λ e. by-cond TameControl (counts 0 q) (λ e. reset-when-tame h) (λ e. mute)) (λ e. mute))))
+
+-- ---- 04
+
+TellsAll : Told → Type 0
+TellsAll t = answered (sendingOf (t .outcome)) ≡ true
+
+again-says : (w : Memory) (h : History) (q : Request) → TellsAll (againWhen w h q)
+unfolding TellsAll againWhen untold answered
+again-says Nothing h q = refl
+again-says (Remembered t) h q = by-cond TellsAll (agrees t q) (λ e. refl) (λ e. refl)
+
+pub history-says : (files values : List ℕ) (h : History) (q : Request) → answered (sendingOf (historyOf files values h q .outcome)) ≡ true
+unfolding TellsAll historyOf toldFrom untold answered
+history-says files values h q =
+    by-cond TellsAll (ltb (q .command) 128)
+    (λ e. by-cond TellsAll (counts 0 q)
+    (λ e. by-cond TellsAll (hasFile files (fileOf q)) (λ e. by-cond TellsAll (acknowledges q) (λ e. refl) (λ e. again-says (h .memory) h q)) (λ e. refl))
+    (λ e. refl))
+    (λ e. refl)
+
+-- an equipped file has records of at most 38 characters
+size-fits : (c : Config) (f : ℕ) → validOf c ≡ true → hasFile (c .files) f ≡ true → sizeOf (c .values) f ≤ 38
+unfolding validOf hasFile fileValid within sizeOf
+size-fits c f v e =
+    let h : has (c .files) f ≡ true = and-right (ltb f 32) (has (c .files) f) e in
+    let l : f < 32 = ltb-true f 32 (and-left (ltb f 32) (has (c .files) f) e) in
+    let b₅ : Bool = every (fileValid c) (upFrom 0 32) in
+    let b₄ : Bool = noneIn (c .calculations) 0x80 128 && b₅ in
+    let b₃ : Bool = noneIn (c .inputs) 0x60 32 && b₄ in
+    let b₂ : Bool = noneIn (c .inputs) 0x20 16 && b₃ in
+    let b₁ : Bool = leb (c .block) 512 && b₂ in
+    let z : b₅ ≡ true =
+    and-right (noneIn (c .calculations) 0x80 128) b₅ (and-right (noneIn (c .inputs) 0x60 32) b₄ (and-right (noneIn (c .inputs) 0x20 16) b₃
+    (and-right (leb (c .block) 512) b₂ (and-right (leb (c .unit) 0x7FE) b₁ v)))) in
+    let k : (not (has (c .files) f) || (leb 1 (getD (c .values) f 0) && leb (getD (c .values) f 0) 16)) ≡ true = every-upFrom (fileValid c) 0 32 z f (omega arith) (omega arith) in
+    let m : getD (c .values) f 0 ≤ 16 = leb-true (getD (c .values) f 0) 16 (and-right (leb 1 (getD (c .values) f 0)) (leb (getD (c .values) f 0) 16) (rw h at k)) in
+    omega arith
+
+most-size : (values : List ℕ) (f : ℕ) (dump : Bool) → sizeOf values f ≤ 38 → mostOf values f dump * sizeOf values f ≤ 510
+unfolding mostOf
+most-size values f true h = div-mul-le-self 510 (sizeOf values f)
+most-size values f false h = omega arith
+
+module _ (values area held₀ : List ℕ) where
+  records-short : (f n : ℕ) (dump more : Bool) → f < 32 → sizeOf values f ≤ 38 → n ≤ mostOf values f dump
+      → length (historyChars n more (heldIn (filesIn values area held₀) f)) ≤ 511
+  unfolding historyChars recordsIn
+  records-short f n dump more k h l =
+      let size = sizeOf values f in
+      let g : min n (getD held₀ f 0) ≤ mostOf values f dump = omega arith in
+      rw (held-files values area held₀ f k, take-held slot size area (baseOf f) n (getD held₀ f 0))
+      (omega (arith, flat-most slot size area (baseOf f) (min n (getD held₀ f 0)), mul-le-mul-right size g, most-size values f dump h))
+
+  Short : Told → Type 0
+  Short t = length (t .chars) ≤ 511
+
+  again-short : (w : Memory) (h : History) (q : Request) → h .files ≡ filesIn values area held₀ → fileOf q < 32 → sizeOf values (fileOf q) ≤ 38
+      → Short (againWhen (cut values w) h q)
+  unfolding Short againWhen cut untold agrees
+  again-short Nothing h q e k l = omega arith
+  again-short (Remembered t) h q e k l =
+      by-cond Short (isOf (t .master) (masterOf (q .address)) && (eqb (t .file .0) (fileOf q) && Bool·beq (t .dump) (dumps q)))
+      (λ a.
+      let z : t .file .0 ≡ fileOf q =
+      eqb-true (t .file .0) (fileOf q) (and-left (eqb (t .file .0) (fileOf q)) (Bool·beq (t .dump) (dumps q))
+      (and-right (isOf (t .master) (masterOf (q .address))) (eqb (t .file .0) (fileOf q) && Bool·beq (t .dump) (dumps q)) a)) in
+      let g : min (t .quantity) (mostOf values (fileOf q) (t .dump)) ≤ mostOf values (fileOf q) (t .dump) = omega arith in
+      rw (e, z) (records-short (fileOf q) (min (t .quantity) (mostOf values (fileOf q) (t .dump))) (t .dump) (t .more) k l g))
+      (λ a. omega arith)
+
+pub told-short : (c : Config) (area held₀ : List ℕ) (w : Memory) (q : Request) → validOf c ≡ true
+    → length (toldOn (c .files) (c .values) w (filesIn (c .values) area held₀) q .chars) ≤ 511
+unfolding Short toldOn toldFrom untold
+told-short c area held₀ w q v =
+    let P : Told → Type 0 = Short (c .values) area held₀ in
+    by-cond P (ltb (q .command) 128)
+    (λ e. by-cond P (counts 0 q)
+    (λ e. by-cond P (hasFile (c .files) (fileOf q))
+    (λ e.
+    let l : fileOf q < 32 = ltb-true (fileOf q) 32 (and-left (ltb (fileOf q) 32) (has (c .files) (fileOf q)) (unfold hasFile in e)) in
+    let z : sizeOf (c .values) (fileOf q) ≤ 38 = size-fits c (fileOf q) v e in
+    by-cond P (acknowledges q)
+    (λ e.
+    let rs = heldIn (filesIn (c .values) area held₀) (fileOf q) in
+    let n : ℕ = min (length rs) (mostOf (c .values) (fileOf q) (dumps q)) in
+    records-short (c .values) area held₀ (fileOf q) n (dumps q) (ltb n (length rs)) l z (omega arith))
+    (λ e. again-short (c .values) area held₀ w (record { memory = w; files = filesIn (c .values) area held₀ }) q refl l z))
+    (λ e. omega arith))
+    (λ e. omega arith))
+    (λ e. omega arith)

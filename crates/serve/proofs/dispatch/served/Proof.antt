@@ -1,0 +1,71 @@
+-- `serve::dispatch::served` meets its contract. Assumes nothing.
+use mathlib.Core.Path.{refl, _∙_}
+use Rattle.model.specs.Frame.{asked}
+use Rattle.model.specs.Step.{settled}
+use Rattle.numbers.proofs.NumbersLaws.{written-readable}
+use Rattle.layout.specs.Unit.{configIn, numbersIn}
+use Rattle.serve.specs.Kept.{innerIn}
+use Rattle.serve.proofs.CommandLaws.{unshifted-numbers}
+use Rattle.serve.proofs.EndingLaws.{status-numbered}
+use Rattle.serve.proofs.KeptLaws.{steady-then}
+use Rattle.serve.proofs.StepLaws.{makes-renumbered}
+use Rattle.serve.proofs.ServedLaws.{makes-served}
+use borrow.Author.Needs.{needs}
+use Rattle.serve.proofs.dispatch.served.Statement.{statement}
+use Rattle.serve.proofs.dispatch.served.Tie as tie
+
+status-in-requires : tie.Need-status-in-requires
+status-in-requires c κs = search needs
+
+port-status-in-requires : tie.Need-port-status-in-requires
+port-status-in-requires c κs = search needs
+
+act-requires : tie.Need-act-requires
+act-requires c κs = search needs
+
+finish-requires : tie.Need-finish-requires
+finish-requires c κs = search needs
+
+settle-requires : tie.Need-settle-requires
+settle-requires c κs = search needs
+
+same-length : tie.Need-same-length
+same-length c = search needs
+
+same-length-2 : tie.Need-same-length-2
+same-length-2 c = search needs
+
+same-length-3 : tie.Need-same-length-3
+same-length-3 c = search needs
+
+returns : tie.Need-returns
+unfolding settled
+returns c =
+    let s = c .before .before .before .before .before .before .before .before .before .before .before .before .before .before .before .before .before .before .before .before .before .before .before .before .before in
+    let u = s .args .unit .now in
+    let ks = numbersIn u in
+    let i = innerIn u (s .args .block .now) (s .args .records .now) in
+    let q = asked (s .args .frame) (s .args .body .now) in
+    let done = c .before .before .before .before .before .before .before .before .before .before .before .before .act .ensures in
+    let ends = c .settle .ensures in (
+      λ y stands.
+          let a = done .0 y stands in
+          let f = rw (c .before .before .before .before .before .before .before .before .before .before .before .before .before .before .before .before .before .before .before .status-in .ensures, c .before .before .before .before .before .before .before .before .before .before .before .before .before .before .before .before .before .port-status-in .ensures ∙ status-numbered ks stands) at (c .before .before .before .before .finish .ensures) in
+          makes-renumbered _ _ _ _ (ends .1)
+          (record { makes = makes-served (configIn u) i q _ (s .pre .0) (a .acts) f (ends .0 (written-readable (a .acts .kept))) refl; changed = a .changed }),
+      steady-then _ _ _ (done .1) (unshifted-numbers _ _ (ends .1) .steady),
+    )
+
+pub served-spec : {M : Type 1} → statement M
+served-spec =
+    tie.close
+    (tie.spec
+    status-in-requires
+    port-status-in-requires
+    act-requires
+    finish-requires
+    settle-requires
+    same-length
+    same-length-2
+    same-length-3
+    returns)

@@ -1,0 +1,5 @@
+pub mod Kept
+pub mod Changes
+pub mod Ends
+pub mod Promises
+pub mod Stretch

@@ -1,0 +1,162 @@
+-- What the inner steps of a stretch promise: what a function made of a frame, what a broadcast made, and what was made of a stretch,
+-- each with all that is lent.
+use mathlib.Core.Path.{_≡_}
+use Prim.Native.Nat.{ℕ, _≤_}
+use mathlib.Core.List.{List, []}
+use mathlib.Core.Bool.{Bool, true, false, not, _&&_}
+use lib.ListN.{length}
+use lib.Dec.{eqb}
+use Rattle.chars.specs.Put.{put}
+use Rattle.model.specs.Limits.{replyHead, mostData, longestReply}
+use Rattle.model.specs.Frame.{Request, heardOf}
+use Rattle.model.specs.Outcome.{numberOf, sendingOf}
+use Rattle.model.specs.Config.{within, validOf}
+use Rattle.model.specs.Fits.{historyFits}
+use Rattle.model.specs.State.{Areas, Files}
+use Rattle.model.specs.Step.{Step as StepOf, Made, answered, broadcastOf, broadcastMade, served, judged}
+use Rattle.model.specs.Port.{sentChars}
+use Rattle.model.specs.declared.Outcome.{Outcome}
+use Rattle.model.specs.declared.Answer.the-variants.{Ended}
+use Rattle.model.specs.declared.Core.{Core}
+use Rattle.model.specs.declared.Mark.{Mark}
+use Rattle.model.specs.declared.Memory.{Memory}
+use Rattle.model.specs.declared.Port.{Port}
+use Rattle.numbers.specs.Numbers.{coreIn, memoryIn, portIn, readable, Written}
+use Rattle.layout.specs.Unit.{unitIn, configIn, numbersIn, roomOf, NumbersOnly}
+use Rattle.history.specs.Layout.{filesIn}
+use Rattle.history.specs.Change.{Change}
+use Rattle.serve.specs.Kept.{areasIn, heldIn, innerBy, innerIn, Owned, Steady}
+use Rattle.serve.specs.Changes.{Stepped, internalStep, returnStep, stepOf, changeHeard, Shifted}
+use Rattle.serve.specs.Ends.{heardBy, portBy}
+use Rattle.serve.specs.declared.step.Step.{Step}
+use Rattle.serve.specs.declared.Made.{Made as MadeOf}
+
+-- ---- a unit's memory
+
+-- numbers that stood mean this core, memory and port afterwards, and nothing else is written
+abbrev pub NumbersPromise : List ℕ → List ℕ → Core → Memory → Port → Type 0
+NumbersPromise u v core memory port = (readable (numbersIn u) ≡ true → Written core memory port (numbersIn v)) × NumbersOnly u v
+
+-- a memory that keeps its configuration, its length and its counts of records
+pub record Unshifted (u v : List ℕ) : Type 0 where
+  pub steady : Steady u v
+  pub counts : unitIn v .counts ≡ unitIn u .counts
+
+-- a configuration that is valid, and a history in range in the room that is asked for
+pub record Ready (u area : List ℕ) : Type 0 where
+  pub valid : validOf (configIn u) ≡ true
+  pub fits : historyFits (configIn u) (record { memory = memoryIn (numbersIn u); files = heldIn u area }) ≡ true
+  pub room : roomOf (configIn u) ≤ length area
+
+-- a refused control request leaves the select, but for 11 and 12 (Select 4, 5)
+abbrev pub leaves : Outcome → Bool
+leaves o = within 6 15 (numberOf o) && not (eqb (numberOf o) 11) && not (eqb (numberOf o) 12)
+
+-- ---- what a function made of a frame for this unit
+
+-- what is sent fits a reply, and what is not sent has no data
+pub record Tame (o : Outcome) (ys : List ℕ) : Type 0 where
+  pub quiet : answered (sendingOf o) ≡ false → ys ≡ []
+  pub short : length ys ≤ mostData
+
+-- its data stand behind the room for the reply's head, and the numbers are ls, with the port as it was
+pub record StepPromise (m : Stepped) (a : Areas) (fs : Files) (p : Port) (ls entry exit : List ℕ) (r : Step) : Type 0 where
+  pub ended : r .outcome ≡ m .step .outcome
+  pub acted : r .action ≡ m .step .action
+  pub counted : r .count ≡ length (m .step .chars)
+  pub written : exit ≡ put entry replyHead (m .step .chars)
+  pub kept : Written (m .step .core) (m .history .memory) p ls
+  pub areas : a ≡ m .step .areas
+  pub files : fs ≡ m .history .files
+  pub tame : Tame (m .step .outcome) (m .step .chars)
+
+-- the same with the lent characters and counts of the files
+pub record StepInPromise (m : Stepped) (a : Areas) (fs : Files) (p : Port) (ls area counts area′ counts′ entry exit : List ℕ) (r : Step) : Type 0 where
+  pub acts : StepPromise m a fs p ls entry exit r
+  pub changed : Shifted (m .change) area counts area′ counts′
+
+-- function 20h, whatever records there are
+abbrev pub InternalPromise : Request → List ℕ → List ℕ → List ℕ → List ℕ → List ℕ → List ℕ → Step → Type 0
+InternalPromise q u block v block′ entry exit r =
+    ((fs : Files) → readable (numbersIn u) ≡ true
+    → StepPromise (internalStep (configIn u) (innerBy u block fs) q) (areasIn v block′) fs (portIn (numbersIn u)) (numbersIn v) entry exit r)
+    × Unshifted u v
+
+-- function 28h, which changes only the buffer
+abbrev pub ReturnedPromise : Request → List ℕ → List ℕ → List ℕ → List ℕ → Step → Type 0
+ReturnedPromise q u block entry exit r =
+    (fs : Files) → readable (numbersIn u) ≡ true
+    → StepPromise (returnStep (innerBy u block fs) q) (areasIn u block) fs (portIn (numbersIn u)) (numbersIn u) entry exit r
+
+-- any function, of what is owned before and after
+abbrev pub ActPromise : Request → Owned → Owned → List ℕ → List ℕ → Step → Type 0
+ActPromise q x y entry exit r =
+    (Ready (x .unit) (x .area) → readable (numbersIn (x .unit)) ≡ true
+    → StepInPromise (stepOf (configIn (x .unit)) (innerIn (x .unit) (x .block) (x .area)) q)
+    (areasIn (y .unit) (y .block)) (filesIn (configIn (x .unit) .values) (y .area) (unitIn (y .unit) .counts)) (portIn (numbersIn (x .unit))) (numbersIn (y .unit))
+    (x .area) (unitIn (x .unit) .counts) (y .area) (unitIn (y .unit) .counts) entry exit r)
+    × Steady (x .unit) (y .unit)
+
+-- ---- what was made of a stretch, with its reply sent under a mark
+
+pub record MadePromise (m : Made) (mark : Mark) (a : Areas) (fs : Files) (p : Port) (ls entry exit : List ℕ) (r : MadeOf) : Type 0 where
+  pub answered : Ended (r .outcome) ≡ m .answer
+  pub acted : r .action ≡ m .action
+  pub counted : r .sent ≡ length (sentChars mark (m .sent))
+  pub inside : r .sent ≤ length entry
+  pub small : r .sent ≤ longestReply
+  pub written : exit ≡ put entry 0 (sentChars mark (m .sent))
+  pub kept : Written (m .inner .core) (m .inner .history .memory) p ls
+  pub areas : a ≡ m .inner .areas
+  pub files : fs ≡ m .inner .history .files
+
+-- the same with the lent characters and counts of the files
+pub record MadeInPromise (m : Made) (ch : Change) (mark : Mark) (a : Areas) (fs : Files) (p : Port) (ls area counts area′ counts′ entry exit : List ℕ) (r : MadeOf) : Type 0 where
+  pub makes : MadePromise m mark a fs p ls entry exit r
+  pub changed : Shifted ch area counts area′ counts′
+
+-- the same of what is owned before and after, where the unit is in range, with the port as it is left
+abbrev pub OwnedPromise : Made → Change → Port → Owned → Owned → List ℕ → List ℕ → MadeOf → Type 0
+OwnedPromise m ch p x y entry exit r =
+    (Ready (x .unit) (x .area) → readable (numbersIn (x .unit)) ≡ true
+    → MadeInPromise m ch (portIn (numbersIn (x .unit)) .mark) (areasIn (y .unit) (y .block))
+    (filesIn (configIn (x .unit) .values) (y .area) (unitIn (y .unit) .counts)) p (numbersIn (y .unit))
+    (x .area) (unitIn (x .unit) .counts) (y .area) (unitIn (y .unit) .counts) entry exit r)
+    × Steady (x .unit) (y .unit)
+
+-- a frame for this unit
+abbrev pub ServedPromise : Request → Owned → Owned → List ℕ → List ℕ → MadeOf → Type 0
+ServedPromise q x y entry exit r =
+    OwnedPromise (served (configIn (x .unit)) (innerIn (x .unit) (x .block) (x .area)) q)
+    (stepOf (configIn (x .unit)) (innerIn (x .unit) (x .block) (x .area)) q .change)
+    (heardBy (portIn (numbersIn (x .unit))) (r .outcome)) x y entry exit r
+
+-- any stretch that a working unit hears
+abbrev pub JudgedPromise : List ℕ → Owned → Owned → List ℕ → List ℕ → MadeOf → Type 0
+JudgedPromise s x y entry exit r =
+    OwnedPromise (judged (configIn (x .unit)) (innerIn (x .unit) (x .block) (x .area)) s (heardOf s))
+    (changeHeard (configIn (x .unit)) (innerIn (x .unit) (x .block) (x .area)) s (heardOf s))
+    (portBy (portIn (numbersIn (x .unit))) s (r .outcome)) x y entry exit r
+
+-- ---- a broadcast
+
+-- what it stirs: it has no data, and the memory stays
+pub record StirPromise (x : StepOf) (a : Areas) (w : Memory) (p : Port) (ls : List ℕ) (o : Outcome) : Type 0 where
+  pub ended : o ≡ x .outcome
+  pub kept : Written (x .core) w p ls
+  pub areas : a ≡ x .areas
+
+-- its function, whatever parameter block there is
+abbrev pub BroadcastStepPromise : Request → List ℕ → List ℕ → Step → Type 0
+BroadcastStepPromise q u v r =
+    ((block : List ℕ) → readable (numbersIn u) ≡ true
+    → StirPromise (broadcastOf (configIn u) (coreIn (numbersIn u)) (areasIn u block) q) (areasIn v block) (memoryIn (numbersIn u)) (portIn (numbersIn u)) (numbersIn v) (r .outcome))
+    × Unshifted u v
+
+-- all of it, whatever else there is
+abbrev pub BroadcastPromise : Request → List ℕ → List ℕ → MadeOf → Type 0
+BroadcastPromise q u v r =
+    ((block : List ℕ) (fs : Files) (mark : Mark) (entry : List ℕ) → readable (numbersIn u) ≡ true
+    → MadePromise (broadcastMade (innerBy u block fs) (broadcastOf (configIn u) (coreIn (numbersIn u)) (areasIn u block) q)) mark
+    (areasIn v block) fs (portIn (numbersIn u)) (numbersIn v) entry entry r)
+    × Unshifted u v

@@ -1,0 +1,192 @@
+// How every stretch ends, whatever its function was: the reply laid round its data, the core settled, the port marked, the kept numbers
+// of each where they lie.
+use super::Made;
+use frames::outcomes::number;
+use frames::outcomes::reply_function;
+use frames::outcomes::sending;
+use layout::UNIT;
+use model::Action;
+use model::Frame;
+use model::Mark;
+use model::Outcome;
+use model::Pending;
+use model::Reply;
+use model::Sending;
+use numbers::broadcast_in;
+use numbers::configure_in;
+use numbers::error_in;
+use numbers::keep_broadcast;
+use numbers::keep_mark;
+use numbers::keep_silence;
+use numbers::keep_write;
+use numbers::mark_at;
+use numbers::write_kept;
+ghost use mathlib.Core.Path.{_≡_};
+ghost use mathlib.Core.List.{[]};
+ghost use mathlib.Core.Bool.{false, cond};
+ghost use Prim.Native.Nat.{_≤_};
+ghost use lib.Dec.{eqb};
+ghost use Rattle.model.specs.Frame.{asked, masterOf};
+ghost use Rattle.model.specs.Blocks.{dropped};
+ghost use Rattle.model.specs.Outcome.{numberOf, sendingOf, damaged};
+ghost use Rattle.model.specs.Step.{answered, statusOf, withWrite, withBroadcast, settled};
+ghost use Rattle.numbers.specs.Numbers.{coreIn, memoryIn, portIn};
+ghost use Rattle.layout.specs.Unit.{numbersIn, Renumbered};
+ghost use Rattle.serve.specs.Ends.{Replies, headOf, heardBy, statusAt, unansweredIn, heardIn};
+ghost use Rattle.serve.specs.Promises.{NumbersPromise};
+
+fn is_answered(outcome: Outcome) -> bool
+    ensures { λ r. ⌜ r ≡ answered (sendingOf outcome) ⌝ }
+{
+    match sending(outcome) {
+        Sending::Normal => true,
+        Sending::Nop => true,
+        Sending::Rst => true,
+        Sending::Unanswered => false,
+    }
+}
+
+// ---- the reply
+
+fn bit(on: bool, value: u8) -> u8
+    ensures { λ r. ⌜ (r ≡ cond on value 0) × (r ≤ value) ⌝ }
+{
+    if on {
+        return value;
+    }
+    0
+}
+
+// The status, which a frame finds before its function changes it.
+pub fn status_in<'a>(unit: &'a [u8; UNIT]) -> u8
+    ensures { λ r. ⌜ r ≡ statusOf (coreIn (numbersIn (now (unit .entry)))) ⌝ }
+{
+    bit(configure_in(unit), 0x80) + (bit(error_in(unit), 0x08) + bit(broadcast_in(unit), 0x04))
+}
+
+// The mark's number is at most 2 where the numbers stand.
+pub fn port_status_in<'a>(unit: &'a [u8; UNIT]) -> u8
+    ensures { λ r. ⌜ r ≡ statusAt (numbersIn (now (unit .entry))) ⌝ }
+{
+    0x54 + (mark_at(unit) % 4) as u8
+}
+
+// Head and check go round the data once, whatever the function was.
+pub fn finish(
+    status: u8,
+    frame: Frame,
+    outcome: Outcome,
+    count: u16,
+    port: u8,
+    buffer: &mut [u8],
+) -> usize
+    ensures { λ r. ⌜ Replies (now (buffer .entry)) (now (buffer .exit)) outcome
+        (headOf status (frame .address) (frame .function) outcome count port) r ⌝ }
+{
+    if is_answered(outcome) {
+        let head = Reply {
+            address: frame.address,
+            function: reply_function(frame.function, outcome),
+            status: status,
+            port: port,
+            count: count,
+        };
+        return frames::fill(buffer, head);
+    }
+    0
+}
+
+// Nothing is sent or operated.
+pub fn quiet(outcome: Outcome) -> Made
+    ensures { λ r. ⌜ r ≡ record { outcome = outcome; action = Action.Rest; sent = 0 } ⌝ }
+{
+    Made {
+        outcome: outcome,
+        action: Action::Rest,
+        sent: 0,
+    }
+}
+
+// ---- the core
+
+// A WRITE that is taken waits; any other frame of its master drops a write.
+fn settle_write(unit: &mut [u8; UNIT], frame: Frame, outcome: Outcome)
+    ensures { λ _. ⌜ NumbersPromise (now (unit .entry)) (now (unit .exit))
+        (withWrite (coreIn (numbersIn (now (unit .entry))))
+        (cond (eqb (numberOf outcome) 5) (coreIn (numbersIn (now (unit .entry))) .write) (dropped (coreIn (numbersIn (now (unit .entry))) .write) (masterOf (frame .address)))))
+        (memoryIn (numbersIn (now (unit .entry)))) (portIn (numbersIn (now (unit .entry)))) ⌝ }
+{
+    if number(outcome) == 5 {
+        return;
+    }
+    let master = frames::master_of(frame.address);
+    let pending = write_kept(unit);
+    match pending {
+        Pending::NoWrite => {}
+        Pending::Waits(write) => {
+            let owner = write.master;
+            if owner.0 == master.0 {
+                keep_write(unit, Pending::NoWrite);
+            }
+        }
+    }
+}
+
+// ---- the port
+
+fn is_damaged(outcome: Outcome) -> bool
+    ensures { λ r. ⌜ r ≡ damaged outcome ⌝ }
+{
+    let n = number(outcome);
+    n == 1 || n == 2
+}
+
+// The mark that the outcome leaves is not written again.
+fn mark_unanswered(unit: &mut [u8; UNIT], outcome: Outcome)
+    ensures { λ _. ⌜ Renumbered (now (unit .entry)) (now (unit .exit)) (unansweredIn (numbersIn (now (unit .entry))) outcome) ⌝ }
+{
+    if is_damaged(outcome) {
+        keep_mark(unit, Mark::Damaged);
+    }
+}
+
+// An empty stretch leaves all.
+pub fn mark_port(unit: &mut [u8; UNIT], s: &[u8], ended: Outcome)
+    ensures { λ _. ⌜ Renumbered (now (unit .entry)) (now (unit .exit)) (heardIn (numbersIn (now (unit .entry))) (now (s .entry)) ended) ⌝ }
+{
+    if s.len() == 0 {
+        return;
+    }
+    keep_silence(unit, 0);
+    if is_answered(ended) {
+        keep_mark(unit, Mark::Fine);
+        return;
+    }
+    mark_unanswered(unit, ended);
+}
+
+// ---- a frame for this unit
+
+// A reply clears bit 2 and the mark.
+fn settle_line(unit: &mut [u8; UNIT], outcome: Outcome)
+    ensures { λ _. ⌜ NumbersPromise (now (unit .entry)) (now (unit .exit))
+        (withBroadcast (coreIn (numbersIn (now (unit .entry)))) (cond (answered (sendingOf outcome)) false (coreIn (numbersIn (now (unit .entry))) .broadcast)))
+        (memoryIn (numbersIn (now (unit .entry)))) (heardBy (portIn (numbersIn (now (unit .entry)))) outcome) ⌝ }
+{
+    keep_silence(unit, 0);
+    if is_answered(outcome) {
+        keep_broadcast(unit, false);
+        keep_mark(unit, Mark::Fine);
+        return;
+    }
+    mark_unanswered(unit, outcome);
+}
+
+// Whether there was a reply is asked once, for bit 2 and for the port.
+pub fn settle(unit: &mut [u8; UNIT], frame: Frame, outcome: Outcome)
+    ensures { λ _. ⌜ NumbersPromise (now (unit .entry)) (now (unit .exit))
+        (settled (asked frame []) outcome (coreIn (numbersIn (now (unit .entry))))) (memoryIn (numbersIn (now (unit .entry)))) (heardBy (portIn (numbersIn (now (unit .entry)))) outcome) ⌝ }
+{
+    settle_write(unit, frame, outcome);
+    settle_line(unit, outcome);
+}

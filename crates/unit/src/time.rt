@@ -1,0 +1,55 @@
+// Time, over all that a unit's owner lends: turned away, or what the definition's step says.
+use layout::UNIT;
+use model::Answer;
+use model::Core;
+use model::Outcome;
+use numbers::core_in;
+use numbers::keep_passed;
+use numbers::port_in;
+ghost use mathlib.Core.Path.{_≡_};
+ghost use Rattle.model.specs.Port.{silentAfter};
+ghost use Rattle.model.specs.Step.{coreAfter, elapsed};
+ghost use Rattle.numbers.specs.Numbers.{coreIn, portIn, putPassed, Passed};
+ghost use Rattle.layout.specs.Unit.{numbersIn, Renumbered};
+ghost use Rattle.serve.specs.Kept.{ownedOf};
+ghost use Rattle.unit.specs.Events.{EventPromise};
+
+fn core_after(core: Core, ms: u32) -> Core
+    ensures { λ r. ⌜ r ≡ coreAfter core ms ⌝ }
+{
+    let clock = core.clock;
+    let hold = core.hold;
+    let write = core.write;
+    Core {
+        clock: clock::clock_after(clock, ms),
+        hold: control::held_after(hold, ms),
+        write: blocks::waits_after(write, ms),
+        configure: core.configure,
+        error: core.error,
+        broadcast: core.broadcast,
+    }
+}
+
+// Time moves clock, select, write and port.
+fn pass(unit: &mut [u8; UNIT], ms: u32)
+    ensures { λ _. ⌜ Renumbered (now (unit .entry)) (now (unit .exit))
+        (putPassed (coreAfter (coreIn (numbersIn (now (unit .entry)))) ms) (silentAfter (portIn (numbersIn (now (unit .entry)))) ms) (numbersIn (now (unit .entry)))) ⌝ }
+    ensures { λ _. ⌜ Passed (coreAfter (coreIn (numbersIn (now (unit .entry)))) ms) (silentAfter (portIn (numbersIn (now (unit .entry)))) ms)
+        (numbersIn (now (unit .entry))) (numbersIn (now (unit .exit))) ⌝ }
+{
+    let core = core_in(unit);
+    let port = port_in(unit);
+    keep_passed(unit, core_after(core, ms), port::waited_by_value(port, ms));
+}
+
+pub fn elapsed<'a>(unit: &mut [u8; UNIT], block: &'a [u8], records: &'a [u8], ms: u32) -> Outcome
+    ensures { λ r. ⌜ EventPromise (elapsed ms)
+        (ownedOf (now (unit .entry)) (now (block .entry)) (now (records .entry)))
+        (ownedOf (now (unit .exit)) (now (block .entry)) (now (records .entry))) (Answer.Ended r) ⌝ }
+{
+    if judge::fits(unit, block.len(), records.len()) {
+        pass(unit, ms);
+        return Outcome::Done;
+    }
+    Outcome::NotConfigured
+}
