@@ -12,11 +12,11 @@ use Rattle.model.specs.Fits.{fits}
 use Rattle.model.specs.declared.Memory.the-variants.{Nothing}
 use Rattle.model.proofs.Conditions.{by-bool}
 use Rattle.model.proofs.Valid.{fresh-fits}
-use Rattle.numbers.specs.Numbers.{numbersOf, coreIn, memoryIn, portIn, readable}
-use Rattle.numbers.proofs.NumbersLaws.{written-readable}
+use Rattle.layout.specs.Numbers.{numbersOf, coreIn, memoryIn, portIn, readable}
+use Rattle.layout.proofs.NumbersLaws.{written-readable}
 use Rattle.layout.specs.Unit.{Unit, unitIn, configIn, numbersIn, configGiven, roomOf}
-use Rattle.judge.specs.Judged.{fitsBy, fitsIn}
-use Rattle.judge.proofs.JudgedLaws.{fits-by}
+use Rattle.layout.specs.Judged.{fitsBy, fitsIn}
+use Rattle.layout.proofs.JudgedLaws.{fits-by}
 use Rattle.unit.specs.Fresh.{FreshPromise}
 use Rattle.unit.proofs.FreshLaws.{fresh-written}
 

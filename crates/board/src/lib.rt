@@ -40,7 +40,7 @@ pub extern "C" fn osturdam_valid(config: &[u8; CONFIG]) -> u8
     unit::fresh(&mut unit, &mut block, config);
     let long = layout::length_of(&unit) as usize;
     let room = layout::room_of(&unit);
-    if judge::fits(&unit, long, room) {
+    if layout::fits(&unit, long, room) {
         return 1;
     }
     0

@@ -4,7 +4,7 @@ use Prim.Native.Nat.{ℕ, zero, suc, _+_, _*_, _/_, _%_, _≤_, _<_}
 use native.Mathlib.Omega.{arith}
 use mathlib.Core.List.{List, [], _∷_}
 use mathlib.Core.Bool.{Bool, true, false, cond}
-use lib.ListN.{length, getD, set}
+use lib.ListN.{length, getD, set, List·getD-eq-default}
 use lib.Seq.{set-out}
 use lib.Dec.{lit<, lit≤, leb}
 use borrow.Author.Tests.{le-leb, lt-leb}
@@ -129,14 +129,9 @@ values-put (a ∷ b ∷ c ∷ d ∷ r) (suc n) v h =
     let e : 4 * suc n ≡ suc (suc (suc (suc (4 * n)))) = omega arith in
     rw e (ap (λ (l : List ℕ). (a + 256 * b + 65536 * (c + 256 * d)) ∷ l) (values-put r n v (omega arith)))
 
-none-at : (r : List ℕ) (i : ℕ) → length r ≤ i → getD r i 0 ≡ 0
-none-at [] i h = refl
-none-at (x ∷ r) zero h = absurd (omega arith)
-none-at (x ∷ r) (suc i) h = none-at r i (omega arith)
-
 no-value : (r : List ℕ) (n : ℕ) → length r ≤ 4 * n → wordAt r (4 * n) + 65536 * wordAt r (4 * n + 2) ≡ 0
 unfolding wordAt
-no-value r n h = rw (none-at r (4 * n) h, none-at r (4 * n + 1) (omega arith), none-at r (4 * n + 2) (omega arith), none-at r (4 * n + 2 + 1) (omega arith))
+no-value r n h = rw (List·getD-eq-default r 0 {n = 4 * n} h, List·getD-eq-default r 0 {n = 4 * n + 1} (omega arith), List·getD-eq-default r 0 {n = 4 * n + 2} (omega arith), List·getD-eq-default r 0 {n = 4 * n + 2 + 1} (omega arith))
 
 values-at : (r : List ℕ) (n : ℕ) → getD (resultsIn r) n 0 ≡ wordAt r (4 * n) + 65536 * wordAt r (4 * n + 2)
 unfolding resultsIn wordAt

@@ -1,65 +1,93 @@
-// Where everything lies in a unit's memory: the one table of places, and each part read and written there.
+// Where everything lies in a unit's memory: the one table of places, and each part read, written and judged there.
+mod clock;
 mod config;
+mod core;
 mod equipment;
+mod files;
+mod judged;
+mod memory;
+mod numbers;
 mod parts;
+mod port;
+mod select;
+mod status;
+mod write;
 
+pub use clock::clock_in;
+pub use clock::keep_clock;
 pub use config::begin;
 pub use config::equip_input;
 pub use config::name_unit;
+pub use core::core_in;
+pub use core::keep_passed;
 pub use equipment::has_calculation;
-pub use equipment::has_file;
 pub use equipment::has_input;
 pub use equipment::has_output;
 pub use equipment::length_of;
 pub use equipment::number_of;
-pub use equipment::values_of;
-pub use parts::count_of;
+pub use files::count_of;
+pub use files::has_file;
+pub use files::put_count;
+pub use files::room_of;
+pub use files::values_of;
+pub use judged::fits;
+pub use memory::keep_memory;
+pub use memory::memory_in;
 pub use parts::fixed_of;
-pub use parts::kept_of;
-pub use parts::layout_of;
-pub use parts::put_count;
 pub use parts::put_fixed;
-pub use parts::put_kept;
 pub use parts::put_value;
 pub use parts::put_word;
-pub use parts::room_of;
 pub use parts::value_of;
 pub use parts::word_of;
+pub use port::keep_mark;
+pub use port::keep_silence;
+pub use port::mark_at;
+pub use port::port_in;
+pub use select::hold_kept;
+pub use select::keep_hold;
+pub use status::broadcast_in;
+pub use status::configure_in;
+pub use status::error_in;
+pub use status::keep_broadcast;
+pub use status::keep_configure;
+pub use status::keep_error;
+pub use write::keep_write;
+pub use write::write_kept;
 ghost use mathlib.Core.Path.{_≡_};
 ghost use Rattle.layout.specs.Unit.{placesOf};
 
 // The number of this layout.
-pub const LAYOUT: usize = 0;
+const LAYOUT: usize = 0;
 
 pub const CURRENT: u16 = 1;
 
 // The configuration.
-pub const NUMBER: usize = LAYOUT + 2;
+const NUMBER: usize = LAYOUT + 2;
 
-pub const LENGTH: usize = NUMBER + 2;
+const LENGTH: usize = NUMBER + 2;
 
-pub const INPUTS: usize = LENGTH + 2;
+const INPUTS: usize = LENGTH + 2;
 
-pub const OUTPUTS: usize = INPUTS + 256;
+const OUTPUTS: usize = INPUTS + 256;
 
-pub const CALCULATIONS: usize = OUTPUTS + 256;
+const CALCULATIONS: usize = OUTPUTS + 256;
 
-pub const FILES: usize = CALCULATIONS + 256;
+const FILES: usize = CALCULATIONS + 256;
 
-pub const VALUES: usize = FILES + 32;
+const VALUES: usize = FILES + 32;
 
 pub const CONFIG: usize = VALUES + 32 - NUMBER;
 
 // What the unit keeps: 26 numbers, then points, blocks and counts.
-pub const NUMBERS: usize = NUMBER + CONFIG;
+const NUMBERS: usize = NUMBER + CONFIG;
 
-pub const WORDS: usize = NUMBERS + 52;
+const WORDS: usize = NUMBERS + 52;
 
-pub const RESULTS: usize = WORDS + 512;
+const RESULTS: usize = WORDS + 512;
 
-pub const FIXED: usize = RESULTS + 512;
+const FIXED: usize = RESULTS + 512;
 
-pub const COUNTS: usize = FIXED + 528;
+const COUNTS: usize = FIXED + 528;
 
 pub const UNIT: usize = COUNTS + 32;
 

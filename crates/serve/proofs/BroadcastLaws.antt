@@ -25,7 +25,7 @@ use Rattle.model.specs.declared.Core.{Core}
 use Rattle.model.specs.declared.Memory.{Memory}
 use Rattle.model.specs.declared.Mark.{Mark}
 use Rattle.model.specs.declared.Port.{Port}
-use Rattle.numbers.specs.Numbers.{Written}
+use Rattle.layout.specs.Numbers.{Written}
 use Rattle.points.specs.Answer.{replyOf}
 use Rattle.serve.specs.Kept.{innerOf}
 use Rattle.serve.specs.declared.step.Step.{Step}

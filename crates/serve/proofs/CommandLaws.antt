@@ -50,7 +50,7 @@ use Rattle.layout.specs.Unit.{Unit, NumbersOnly, numbersIn, unitLong, unitIn, c
 use Rattle.serve.specs.Kept.{areasBy, areasIn}
 use Rattle.serve.specs.Changes.{Stepped, alone, initialStep, internalStep, returnStep}
 use Rattle.model.specs.declared.Port.{Port}
-use Rattle.numbers.specs.Numbers.{Written as Kept}
+use Rattle.layout.specs.Numbers.{Written as Kept}
 use Rattle.serve.specs.declared.step.Step.{Step}
 use Rattle.serve.specs.Promises.{Tame, StepPromise, Unshifted}
 use Rattle.serve.proofs.KeptLaws.{steady-same, steady-then}

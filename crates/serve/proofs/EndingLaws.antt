@@ -3,7 +3,7 @@ use mathlib.Core.Path.{_≡_, refl, sym, ap, _∙_}
 use Prim.Native.Nat.{ℕ, _+_, _%_}
 use mathlib.Core.List.{List}
 use mathlib.Core.Bool.{true, false}
-use lib.ListN.{length, getD}
+use lib.ListN.{length}
 use lib.Dec.{eqb}
 use Rattle.chars.specs.Put.{put}
 use Rattle.chars.proofs.PutLaws.{put-none}
@@ -22,9 +22,9 @@ use Rattle.model.specs.declared.Sending.the-variants.{Normal, Nop, Rst, Unanswe
 use Rattle.model.specs.declared.Reply.{Reply}
 use Rattle.model.proofs.Conditions.{by-bool, false-true}
 use Rattle.frames.specs.Framed.{framedIn}
-use Rattle.numbers.specs.Numbers.{markNumber, numbersOf, coreIn, memoryIn, portIn, readable, Written}
-use Rattle.numbers.proofs.NumbersLaws.{readable-written}
-use Rattle.numbers.proofs.PlaceLaws.{silence-written, mark-written}
+use Rattle.layout.specs.Numbers.{markNumber, numbersOf, coreIn, memoryIn, markAt, portIn, readable, Written}
+use Rattle.layout.proofs.NumbersLaws.{readable-written}
+use Rattle.layout.proofs.PlaceLaws.{silence-written, mark-written}
 use Rattle.port.specs.Lent.{isSo, markHeard, heardOf}
 use Rattle.serve.specs.Ends.{repliedIn, Replies, markBy, portBy, statusAt, unansweredIn, heardIn}
 
@@ -59,7 +59,7 @@ status-marked Damaged = refl
 pub status-numbered : (ks : List ℕ) → readable ks ≡ true → statusAt ks ≡ portStatus (portIn ks .mark)
 unfolding numbersOf
 status-numbered ks e =
-    ap (λ (ls : List ℕ). 0x54 + getD ls 25 0 % 4) (readable-written ks e .plain) ∙ status-marked (portIn ks .mark)
+    ap (λ (ls : List ℕ). 0x54 + markAt ls % 4) (readable-written ks e .plain) ∙ status-marked (portIn ks .mark)
 
 -- ---- the port after a stretch, in numbers that stood
 

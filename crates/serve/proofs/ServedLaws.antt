@@ -20,7 +20,7 @@ use Rattle.model.specs.declared.Mark.{Mark}
 use Rattle.model.specs.declared.Reply.{Reply}
 use Rattle.model.specs.declared.Port.{Port}
 use Rattle.model.proofs.Conditions.{by-bool}
-use Rattle.numbers.specs.Numbers.{coreIn, memoryIn, portIn, Written}
+use Rattle.layout.specs.Numbers.{coreIn, memoryIn, portIn, Written}
 use Rattle.frames.specs.Framed.{framedIn}
 use Rattle.frames.proofs.FillLaws.{framed-is, framed-long}
 use Rattle.serve.specs.Changes.{stepOf}

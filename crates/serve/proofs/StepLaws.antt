@@ -40,7 +40,7 @@ use Rattle.model.specs.declared.Mark.{Mark}
 use Rattle.model.specs.declared.Port.{Port}
 use Rattle.model.proofs.Conditions.{by-bool, and-left, and-right}
 use Rattle.model.proofs.Refusing.{control-leaves}
-use Rattle.numbers.specs.Numbers.{Written}
+use Rattle.layout.specs.Numbers.{Written}
 use Rattle.control.specs.declared.Ran.{Ran}
 use Rattle.control.specs.Runs.{Runs}
 use Rattle.history.specs.Change.{Change, stays, freedBy}

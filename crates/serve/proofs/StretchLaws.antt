@@ -23,8 +23,8 @@ use Rattle.model.specs.declared.Mark.{Mark}
 use Rattle.model.specs.declared.Port.{Port}
 use Rattle.model.proofs.Conditions.{false-true, by-bool}
 use Rattle.model.proofs.FrameLaws.{heard-whole}
-use Rattle.numbers.specs.Numbers.{portIn, Written}
-use Rattle.numbers.proofs.NumbersLaws.{written-readable}
+use Rattle.layout.specs.Numbers.{portIn, Written}
+use Rattle.layout.proofs.NumbersLaws.{written-readable}
 use Rattle.history.specs.Layout.{filesIn}
 use Rattle.history.specs.Change.{Change}
 use Rattle.history.proofs.LayoutLaws.{length-area}

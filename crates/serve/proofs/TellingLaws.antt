@@ -9,7 +9,7 @@ use Rattle.model.specs.Frame.{Request}
 use Rattle.model.specs.History.{historyOf}
 use Rattle.model.specs.declared.Action.the-variants.{Rest}
 use Rattle.model.specs.declared.Filled.{Filled}
-use Rattle.numbers.specs.Numbers.{memoryIn, portIn, readable}
+use Rattle.layout.specs.Numbers.{memoryIn, portIn, readable}
 use Rattle.history.specs.Layout.{filesIn}
 use Rattle.history.specs.Change.{freedBy, countsAfter}
 use Rattle.history.specs.Tell.{Serves}

@@ -11,7 +11,7 @@ use Rattle.model.specs.State.{State}
 use Rattle.model.specs.declared.Outcome.{Outcome}
 use Rattle.model.specs.declared.Answer.the-variants.{Ended}
 use Rattle.model.proofs.Conditions.{by-bool}
-use Rattle.numbers.proofs.NumbersLaws.{readable-one}
+use Rattle.layout.proofs.NumbersLaws.{readable-one}
 use Rattle.layout.specs.Unit.{unitLong, unitIn, configIn, numbersIn}
 use Rattle.layout.proofs.UnitOne.{unit-one}
 use Rattle.serve.specs.Kept.{Kept, stateOf, Owned, keptIn, standing}

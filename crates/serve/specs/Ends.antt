@@ -3,7 +3,7 @@ use mathlib.Core.Path.{_≡_}
 use Prim.Native.Nat.{ℕ, _+_, _%_}
 use mathlib.Core.List.{List, []}
 use mathlib.Core.Bool.{cond}
-use lib.ListN.{length, getD, set}
+use lib.ListN.{length}
 use lib.Dec.{eqb}
 use Rattle.chars.specs.Put.{put}
 use Rattle.model.specs.Outcome.{sendingOf, replyFunction, damaged}
@@ -14,7 +14,7 @@ use Rattle.model.specs.declared.Mark.the-variants.{Fine, Damaged}
 use Rattle.model.specs.declared.Port.{Port}
 use Rattle.model.specs.declared.Reply.{Reply}
 use Rattle.frames.specs.Framed.{framedIn}
-use Rattle.numbers.specs.Numbers.{markNumber}
+use Rattle.layout.specs.Numbers.{markAt, putSilence, putMark}
 
 -- the head of the reply to a frame that found this status and port status, of which a function made o, with n characters of data
 abbrev pub headOf : ℕ → ℕ → ℕ → Outcome → ℕ → ℕ → Reply
@@ -45,12 +45,12 @@ portBy p s o = cond (eqb (length s) 0) p (heardBy p o)
 
 -- the port's status by the number of its mark
 abbrev pub statusAt : List ℕ → ℕ
-statusAt ks = 0x54 + getD ks 25 0 % 4
+statusAt ks = 0x54 + markAt ks % 4
 
 -- no reply: damage marks, any other outcome leaves the mark
 abbrev pub unansweredIn : List ℕ → Outcome → List ℕ
-unansweredIn ks o = cond (damaged o) (set ks 25 (markNumber Damaged)) ks
+unansweredIn ks o = cond (damaged o) (putMark Damaged ks) ks
 
 -- after a stretch s with this outcome: an empty one changes nothing
 unfoldable pub heardIn : List ℕ → List ℕ → Outcome → List ℕ
-heardIn ks s o = cond (eqb (length s) 0) ks (cond (answered (sendingOf o)) (set (set ks 24 0) 25 (markNumber Fine)) (unansweredIn (set ks 24 0) o))
+heardIn ks s o = cond (eqb (length s) 0) ks (cond (answered (sendingOf o)) (putMark Fine (putSilence 0 ks)) (unansweredIn (putSilence 0 ks) o))

@@ -11,7 +11,7 @@ use Rattle.model.specs.declared.Core.{Core}
 use Rattle.model.specs.declared.Memory.{Memory}
 use Rattle.model.specs.declared.Port.{Port}
 use Rattle.history.specs.Layout.{filesIn}
-use Rattle.numbers.specs.Numbers.{coreIn, memoryIn, portIn, readable}
+use Rattle.layout.specs.Numbers.{coreIn, memoryIn, portIn, readable}
 use Rattle.layout.specs.Unit.{Unit, layoutNumber, unitIn, configIn, numbersIn, roomOf}
 
 pub record Kept : Type 0 where

@@ -21,7 +21,7 @@ use Rattle.model.specs.declared.Core.{Core}
 use Rattle.model.specs.declared.Mark.{Mark}
 use Rattle.model.specs.declared.Memory.{Memory}
 use Rattle.model.specs.declared.Port.{Port}
-use Rattle.numbers.specs.Numbers.{coreIn, memoryIn, portIn, readable, Written}
+use Rattle.layout.specs.Numbers.{coreIn, memoryIn, portIn, readable, Written}
 use Rattle.layout.specs.Unit.{unitIn, configIn, numbersIn, roomOf, NumbersOnly}
 use Rattle.history.specs.Layout.{filesIn}
 use Rattle.history.specs.Change.{Change}

@@ -8,10 +8,10 @@ use super::step::refused;
 use super::step::scanned;
 use frames::outcomes::number;
 use layout::UNIT;
+use layout::clock_in;
+use layout::keep_broadcast;
 use model::Frame;
 use model::Outcome;
-use numbers::clock_in;
-use numbers::keep_broadcast;
 ghost use Rattle.model.specs.Frame.{asked};
 ghost use Rattle.serve.specs.Promises.{BroadcastStepPromise, BroadcastPromise};
 

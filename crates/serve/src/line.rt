@@ -16,7 +16,7 @@ ghost use lib.ListN.{length};
 ghost use Rattle.model.specs.Limits.{longestReply};
 ghost use Rattle.model.specs.Clock.{clockFits};
 ghost use Rattle.layout.specs.Unit.{numbersIn, Renumbered};
-ghost use Rattle.numbers.specs.Numbers.{coreIn};
+ghost use Rattle.layout.specs.Numbers.{coreIn};
 ghost use Rattle.serve.specs.Ends.{heardIn};
 ghost use Rattle.serve.specs.Kept.{ownedOf};
 ghost use Rattle.serve.specs.Promises.{JudgedPromise};
@@ -80,7 +80,7 @@ pub fn stretch<'a>(
     if buffer.len() < Reply::LONGEST {
         return quiet(Outcome::BufferShort);
     }
-    if judge::fits(unit, block.len(), records.len()) {
+    if layout::fits(unit, block.len(), records.len()) {
         return judged(unit, block, records, buffer, s);
     }
     quiet(Outcome::NotConfigured)

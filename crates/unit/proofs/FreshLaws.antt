@@ -14,7 +14,7 @@ use Rattle.model.specs.State.{freshCore, freshAreas, freshHistory, freshPort, f
 use Rattle.model.specs.declared.Memory.the-variants.{Nothing}
 use Rattle.model.proofs.Conditions.{and-both}
 use Rattle.history.specs.Layout.{held, recordsIn, each, filesIn}
-use Rattle.numbers.specs.Numbers.{
+use Rattle.layout.specs.Numbers.{
   bitOf,
   holdNumbers,
   writeNumbers,
@@ -30,9 +30,10 @@ use Rattle.numbers.specs.Numbers.{
   memoryIn,
   portIn,
   putClock,
+  putConfigure,
   Written,
 }
-use Rattle.numbers.proofs.NumbersLaws.{written-readable}
+use Rattle.layout.proofs.NumbersLaws.{written-readable}
 use Rattle.layout.specs.Unit.{unitLong, configLong, layoutNumber, Unit, unitIn, configIn, numbersIn, configGiven, setNumbers, blankUnit, blankOf, Renumbered, roomOf}
 use Rattle.layout.specs.Regions.{startIn}
 use Rattle.layout.proofs.UnitLaws.{renumbered-then}
@@ -84,21 +85,21 @@ pub fresh-written : Written freshCore Nothing freshPort (numbersOf freshCore Not
 unfolding freshCore freshPort numbersOf coreIn memoryIn portIn clockIn holdNumbers writeNumbers memoryNumbers markNumber bitOf holdIn writeIn replyIn markIn
 fresh-written = record { plain = refl; means = record { core = refl; memory = refl; port = refl } }
 
-fresh-numbers : set (putClock (record { day = 1; hour = 0; minute = 0; second = 0; ms = 0 }) (replicate 26 0)) 15 (bitOf true) ≡ numbersOf freshCore Nothing freshPort
+fresh-numbers : (c : Config) → putConfigure true (putClock (record { day = 1; hour = 0; minute = 0; second = 0; ms = 0 }) (blankOf c .numbers)) ≡ numbersOf freshCore Nothing freshPort
 unfolding freshCore freshPort numbersOf holdNumbers writeNumbers memoryNumbers markNumber bitOf
-fresh-numbers = refl
+fresh-numbers c = refl
 
 -- the memory of a configuration's characters, the clock kept in it and then the configure bit
 pub fresh-kept : (cs : List ℕ) {u v w : List ℕ} → length cs ≡ 836 → u ≡ blankUnit cs
-    → Renumbered u v (putClock (record { day = 1; hour = 0; minute = 0; second = 0; ms = 0 }) (numbersIn u)) → Renumbered v w (set (numbersIn v) 15 (bitOf true))
+    → Renumbered u v (putClock (record { day = 1; hour = 0; minute = 0; second = 0; ms = 0 }) (numbersIn u)) → Renumbered v w (putConfigure true (numbersIn v))
     → (unitIn w ≡ freshUnit (configGiven cs)) × (length w ≡ unitLong)
 unfolding startIn
 fresh-kept cs {u} {v} {w} l e a b =
-    let r = renumbered-then (λ (ks : List ℕ). set ks 15 (bitOf true)) u v w a b in
+    let r = renumbered-then (putConfigure true) u v w a b in
     let m : unitIn u ≡ blankOf (configGiven cs) = ap unitIn e ∙ blank-means cs l in (
       r .means
-          ∙ ap (λ (x : Unit). setNumbers x (set (putClock (record { day = 1; hour = 0; minute = 0; second = 0; ms = 0 }) (x .numbers)) 15 (bitOf true))) m
-          ∙ ap (setNumbers (blankOf (configGiven cs))) fresh-numbers,
+          ∙ ap (λ (x : Unit). setNumbers x (putConfigure true (putClock (record { day = 1; hour = 0; minute = 0; second = 0; ms = 0 }) (x .numbers)))) m
+          ∙ ap (setNumbers (blankOf (configGiven cs))) (fresh-numbers (configGiven cs)),
       r .long ∙ ap length e ∙ blank-long cs,
     )
 

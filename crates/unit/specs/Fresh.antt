@@ -6,7 +6,7 @@ use lib.ListN.{length, replicate}
 use Rattle.model.specs.Config.{Config}
 use Rattle.model.specs.State.{freshCore, freshPort}
 use Rattle.model.specs.declared.Memory.the-variants.{Nothing}
-use Rattle.numbers.specs.Numbers.{numbersOf}
+use Rattle.layout.specs.Numbers.{numbersOf}
 use Rattle.layout.specs.Unit.{Unit, unitLong, configGiven, unitIn, setNumbers, blankOf}
 
 -- a unit of this configuration with nothing in it but the numbers of a fresh one

@@ -22,7 +22,7 @@ pub fn fresh(unit: &mut [u8; UNIT], block: &mut [u8], config: &[u8; CONFIG])
 {
     told_long(config);
     layout::begin(unit, config);
-    numbers::keep_clock(unit, 1, 0, 0, 0, 0);
-    numbers::keep_configure(unit, true);
+    layout::keep_clock(unit, 1, 0, 0, 0, 0);
+    layout::keep_configure(unit, true);
     zero(block);
 }

@@ -1,15 +1,15 @@
 // Time, over all that a unit's owner lends: turned away, or what the definition's step says.
 use layout::UNIT;
+use layout::core_in;
+use layout::keep_passed;
+use layout::port_in;
 use model::Answer;
 use model::Core;
 use model::Outcome;
-use numbers::core_in;
-use numbers::keep_passed;
-use numbers::port_in;
 ghost use mathlib.Core.Path.{_≡_};
 ghost use Rattle.model.specs.Port.{silentAfter};
 ghost use Rattle.model.specs.Step.{coreAfter, elapsed};
-ghost use Rattle.numbers.specs.Numbers.{coreIn, portIn, putPassed, Passed};
+ghost use Rattle.layout.specs.Numbers.{coreIn, portIn, putPassed, Passed};
 ghost use Rattle.layout.specs.Unit.{numbersIn, Renumbered};
 ghost use Rattle.serve.specs.Kept.{ownedOf};
 ghost use Rattle.unit.specs.Events.{EventPromise};
@@ -47,7 +47,7 @@ pub fn elapsed<'a>(unit: &mut [u8; UNIT], block: &'a [u8], records: &'a [u8], ms
         (ownedOf (now (unit .entry)) (now (block .entry)) (now (records .entry)))
         (ownedOf (now (unit .exit)) (now (block .entry)) (now (records .entry))) (Answer.Ended r) ⌝ }
 {
-    if judge::fits(unit, block.len(), records.len()) {
+    if layout::fits(unit, block.len(), records.len()) {
         pass(unit, ms);
         return Outcome::Done;
     }

@@ -1,8 +1,8 @@
 -- `serve::broadcast::broadcast` meets its contract. Assumes nothing.
 use borrow.Author.Tests.{eq-eqb, ne-eqb}
 use Rattle.model.specs.declared.Outcome.the-variants.{BroadcastDone, BroadcastRefused}
-use Rattle.numbers.specs.Numbers.{coreIn, memoryIn, portIn}
-use Rattle.numbers.proofs.PlaceLaws.{broadcast-written}
+use Rattle.layout.specs.Numbers.{coreIn, memoryIn, portIn}
+use Rattle.layout.proofs.PlaceLaws.{broadcast-written}
 use Rattle.serve.specs.Kept.{areasIn}
 use Rattle.serve.proofs.BroadcastLaws.{makes-broadcast}
 use Rattle.layout.specs.Unit.{numbersIn}

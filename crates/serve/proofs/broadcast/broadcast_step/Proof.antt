@@ -10,8 +10,8 @@ use Rattle.serve.proofs.BroadcastLaws.{broadcast-not, broadcast-reset, 
 use Rattle.model.specs.Clock.{setTimeOf}
 use Rattle.model.specs.declared.Clock.{Clock}
 use Rattle.clock.specs.Times.{setOf}
-use Rattle.numbers.specs.Numbers.{coreIn}
-use Rattle.numbers.proofs.NumbersLaws.{readable-written}
+use Rattle.layout.specs.Numbers.{coreIn}
+use Rattle.layout.proofs.NumbersLaws.{readable-written}
 use borrow.Author.Needs.{needs}
 use Rattle.serve.proofs.broadcast.broadcast_step.Statement.{statement}
 use Rattle.serve.proofs.broadcast.broadcast_step.Tie as tie

@@ -3,9 +3,9 @@ use mathlib.Core.Path.{ap, subst, _∙_}
 use mathlib.Core.Bool.{Bool, false, cond}
 use Rattle.model.specs.Step.{withConfigure, withError}
 use Rattle.model.specs.declared.Core.{Core}
-use Rattle.numbers.specs.Numbers.{coreIn, memoryIn, portIn, Written}
-use Rattle.numbers.proofs.NumbersLaws.{readable-written}
-use Rattle.numbers.proofs.PlaceLaws.{configure-written, error-written}
+use Rattle.layout.specs.Numbers.{coreIn, memoryIn, portIn, Written}
+use Rattle.layout.proofs.NumbersLaws.{readable-written}
+use Rattle.layout.proofs.PlaceLaws.{configure-written, error-written}
 use Rattle.layout.specs.Unit.{numbersIn}
 use Rattle.layout.proofs.UnitLaws.{numbers-left, numbers-only, numbers-on}
 use borrow.Author.Needs.{needs}

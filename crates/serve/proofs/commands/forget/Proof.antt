@@ -1,7 +1,7 @@
 -- `serve::commands::forget` meets its contract. Assumes nothing.
 use Rattle.model.specs.Step.{restarted}
-use Rattle.numbers.proofs.NumbersLaws.{readable-written}
-use Rattle.numbers.proofs.PlaceLaws.{hold-written, write-written, configure-written, memory-written}
+use Rattle.layout.proofs.NumbersLaws.{readable-written}
+use Rattle.layout.proofs.PlaceLaws.{hold-written, write-written, configure-written, memory-written}
 use Rattle.layout.proofs.UnitLaws.{numbers-left, numbers-only, numbers-on}
 use borrow.Author.Needs.{needs}
 use Rattle.serve.proofs.commands.forget.Statement.{statement}

@@ -5,8 +5,8 @@ use Rattle.model.specs.Blocks.{writeOf}
 use Rattle.model.specs.Clock.{setTimeOf}
 use Rattle.model.specs.declared.Clock.{Clock}
 use Rattle.model.specs.declared.Pending.{Pending}
-use Rattle.numbers.specs.Numbers.{coreIn}
-use Rattle.numbers.proofs.NumbersLaws.{readable-written}
+use Rattle.layout.specs.Numbers.{coreIn}
+use Rattle.layout.proofs.NumbersLaws.{readable-written}
 use Rattle.clock.specs.declared.Set.{Set}
 use Rattle.clock.specs.Times.{setOf}
 use Rattle.blocks.specs.Answers.{WritesAs}

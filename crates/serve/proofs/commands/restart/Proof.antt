@@ -1,7 +1,7 @@
 -- `serve::commands::restart` meets its contract. Assumes nothing.
 use mathlib.Core.Path.{_∙_}
 use borrow.Author.Tests.{eq-eqb, ne-eqb}
-use Rattle.numbers.proofs.NumbersLaws.{readable-written}
+use Rattle.layout.proofs.NumbersLaws.{readable-written}
 use Rattle.layout.proofs.UnitLaws.{renumbered-same}
 use borrow.Author.Needs.{needs}
 use Rattle.serve.proofs.commands.restart.Statement.{statement}

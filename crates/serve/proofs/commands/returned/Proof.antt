@@ -2,8 +2,8 @@
 use native.Mathlib.Omega.{arith}
 use mathlib.Core.Path.{refl}
 use Rattle.model.specs.Frame.{asked}
-use Rattle.numbers.specs.Numbers.{coreIn}
-use Rattle.numbers.proofs.NumbersLaws.{readable-written}
+use Rattle.layout.specs.Numbers.{coreIn}
+use Rattle.layout.proofs.NumbersLaws.{readable-written}
 use Rattle.clock.specs.Times.{readOf}
 use Rattle.serve.specs.Kept.{innerBy}
 use Rattle.serve.proofs.CommandLaws.{return-read, return-time, return-unknown, acts-scan, acts-refused}

@@ -1,6 +1,6 @@
 -- `serve::commands::timed` meets its contract. Assumes nothing.
-use Rattle.numbers.proofs.NumbersLaws.{readable-written}
-use Rattle.numbers.proofs.PlaceLaws.{clock-written}
+use Rattle.layout.proofs.NumbersLaws.{readable-written}
+use Rattle.layout.proofs.PlaceLaws.{clock-written}
 use Rattle.layout.proofs.UnitLaws.{numbers-left, numbers-only}
 use borrow.Author.Needs.{needs}
 use Rattle.serve.proofs.commands.timed.Statement.{statement}

@@ -1,6 +1,6 @@
 -- `serve::commands::written` meets its contract. Assumes nothing.
-use Rattle.numbers.proofs.NumbersLaws.{readable-written}
-use Rattle.numbers.proofs.PlaceLaws.{write-written}
+use Rattle.layout.proofs.NumbersLaws.{readable-written}
+use Rattle.layout.proofs.PlaceLaws.{write-written}
 use Rattle.layout.proofs.UnitLaws.{numbers-left, numbers-only}
 use borrow.Author.Needs.{needs}
 use Rattle.serve.proofs.commands.written.Statement.{statement}

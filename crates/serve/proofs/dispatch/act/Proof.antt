@@ -4,9 +4,9 @@ use Rattle.model.specs.Frame.{asked}
 use Rattle.model.specs.Control.{breaks}
 use Rattle.model.specs.Step.{brokenOff}
 use Rattle.model.specs.declared.Hold.{Hold}
-use Rattle.numbers.specs.Numbers.{coreIn}
-use Rattle.numbers.proofs.NumbersLaws.{readable-written}
-use Rattle.numbers.proofs.PlaceLaws.{hold-written}
+use Rattle.layout.specs.Numbers.{coreIn}
+use Rattle.layout.proofs.NumbersLaws.{readable-written}
+use Rattle.layout.proofs.PlaceLaws.{hold-written}
 use Rattle.layout.specs.Unit.{configIn, numbersIn}
 use Rattle.layout.proofs.UnitLaws.{unit-long, numbers-left, numbers-only}
 use Rattle.points.proofs.AnswerLaws.{in-room, fills-as}

@@ -1,7 +1,7 @@
 -- `serve::dispatch::controlled` meets its contract: a select that is left stands as it is written. Assumes nothing.
 use mathlib.Core.Path.{refl, sym, _∙_}
-use Rattle.numbers.proofs.NumbersLaws.{readable-written}
-use Rattle.numbers.proofs.PlaceLaws.{hold-written}
+use Rattle.layout.proofs.NumbersLaws.{readable-written}
+use Rattle.layout.proofs.PlaceLaws.{hold-written}
 use Rattle.layout.proofs.UnitLaws.{renumbered-same, numbers-left, numbers-only}
 use borrow.Author.Needs.{needs}
 use Rattle.serve.proofs.dispatch.controlled.Statement.{statement}

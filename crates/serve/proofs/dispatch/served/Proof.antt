@@ -2,7 +2,7 @@
 use mathlib.Core.Path.{refl, _∙_}
 use Rattle.model.specs.Frame.{asked}
 use Rattle.model.specs.Step.{settled}
-use Rattle.numbers.proofs.NumbersLaws.{written-readable}
+use Rattle.layout.proofs.NumbersLaws.{written-readable}
 use Rattle.layout.specs.Unit.{configIn, numbersIn}
 use Rattle.serve.specs.Kept.{innerIn}
 use Rattle.serve.proofs.CommandLaws.{unshifted-numbers}

@@ -1,8 +1,7 @@
 -- `serve::ending::mark_port` meets its contract: an empty stretch, a reply, or none. Assumes nothing.
 use mathlib.Core.Path.{sym, _∙_}
-use lib.ListN.{set}
 use Rattle.model.specs.declared.Mark.the-variants.{Fine}
-use Rattle.numbers.specs.Numbers.{markNumber}
+use Rattle.layout.specs.Numbers.{putMark}
 use Rattle.layout.proofs.UnitLaws.{renumbered-same, renumbered-then}
 use borrow.Author.Needs.{needs}
 use borrow.Author.Tests.{eq-eqb, ne-eqb}
@@ -27,7 +26,7 @@ returns-2 : tie.Need-returns-2
 unfolding heardIn
 returns-2 c =
     rw (ne-eqb _ _ (c .before .before .before .before .before .before .if1 .left), sym (c .before .before .before .is-answered .ensures) ∙ c .before .before .if2 .taken)
-    (renumbered-then (λ ks. set ks 25 (markNumber Fine)) _ _ _ (c .before .before .before .before .keep-silence .ensures) (c .keep-mark .ensures))
+    (renumbered-then (putMark Fine) _ _ _ (c .before .before .before .before .keep-silence .ensures) (c .keep-mark .ensures))
 
 mark-unanswered-requires : tie.Need-mark-unanswered-requires
 mark-unanswered-requires c κs = search needs

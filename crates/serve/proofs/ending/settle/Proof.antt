@@ -1,6 +1,6 @@
 -- `serve::ending::settle` meets its contract: the write, then bit 2 and the port. Assumes nothing.
 use Rattle.model.specs.Step.{settled}
-use Rattle.numbers.proofs.NumbersLaws.{written-readable}
+use Rattle.layout.proofs.NumbersLaws.{written-readable}
 use Rattle.layout.proofs.UnitLaws.{numbers-on}
 use borrow.Author.Needs.{needs}
 use Rattle.serve.proofs.ending.settle.Statement.{statement}

@@ -2,8 +2,8 @@
 use mathlib.Core.Path.{sym, _∙_}
 use Rattle.layout.proofs.UnitLaws.{numbers-left, numbers-only, numbers-on}
 use borrow.Author.Needs.{needs}
-use Rattle.numbers.proofs.NumbersLaws.{readable-written}
-use Rattle.numbers.proofs.PlaceLaws.{broadcast-written, silence-written, mark-written}
+use Rattle.layout.proofs.NumbersLaws.{readable-written}
+use Rattle.layout.proofs.PlaceLaws.{broadcast-written, silence-written, mark-written}
 use Rattle.serve.specs.Ends.{markBy}
 use Rattle.serve.proofs.EndingLaws.{unanswered-written}
 use Rattle.serve.proofs.ending.settle_line.Statement.{statement}

@@ -5,9 +5,9 @@ use borrow.Author.Needs.{needs}
 use borrow.Author.Tests.{eq-eqb, ne-eqb}
 use Rattle.model.specs.Control.{isOf}
 use Rattle.model.specs.Blocks.{dropped}
-use Rattle.numbers.specs.Numbers.{coreIn}
-use Rattle.numbers.proofs.NumbersLaws.{readable-written}
-use Rattle.numbers.proofs.PlaceLaws.{write-written}
+use Rattle.layout.specs.Numbers.{coreIn}
+use Rattle.layout.proofs.NumbersLaws.{readable-written}
+use Rattle.layout.proofs.PlaceLaws.{write-written}
 use Rattle.serve.proofs.ending.settle_write.Statement.{statement}
 use Rattle.serve.proofs.ending.settle_write.Tie as tie
 

@@ -1,7 +1,7 @@
 -- `serve::line::judged` meets its contract. Assumes nothing.
 use mathlib.Core.Path.{sym, _∙_}
-use Rattle.numbers.specs.Numbers.{portIn}
-use Rattle.numbers.proofs.NumbersLaws.{readable-written}
+use Rattle.layout.specs.Numbers.{portIn}
+use Rattle.layout.proofs.NumbersLaws.{readable-written}
 use Rattle.layout.specs.Unit.{configIn, numbersIn}
 use Rattle.serve.specs.Kept.{innerIn}
 use Rattle.layout.proofs.UnitLaws.{numbers-only}

@@ -1,0 +1,267 @@
+-- Laws of judging: tests that every number of a run passes, what stands in for the records, and the parts in the order of the code.
+-- Assumes nothing.
+use mathlib.Core.Path.{_≡_, refl, sym, ap, _∙_}
+use Prim.Native.Nat.{ℕ, zero, suc, _+_, _-_, _*_, _%_, _<_, _≤_}
+use native.Mathlib.Numerals.{add-one}
+use native.Mathlib.Nat.{mod-eq-of-lt}
+use native.Mathlib.Omega.{arith}
+use mathlib.Core.List.{List, [], _∷_, _++_}
+use mathlib.Core.Bool.{Bool, true, false, cond, _&&_, and-assoc, and-true, and-false}
+use lib.ListN.{length, getD, length-replicate, drop, length-drop, List·getD-eq-default}
+use lib.Seq.{take-all}
+use lib.Dec.{eqb, leb, ltb}
+use lib.Bits.{bitOr, or-zero-l, or-add-and, and-le-r}
+use borrow.Author.Tests.{ltb-true, ltb-false, leb-true, eqb-true, lt-ltb, le-leb, lt-leb, eq-eqb, ne-eqb}
+use Rattle.chars.specs.Put.{part}
+use Rattle.chars.specs.Gather.{upFrom}
+use Rattle.chars.proofs.PutLaws.{part-none, part-more}
+use Rattle.chars.proofs.GatherLaws.{up-none, up-more}
+use Rattle.model.specs.Config.{Config, has, within, hasFile, every, noneIn, fileValid, validOf}
+use Rattle.model.specs.State.{Areas, Files, heldIn}
+use Rattle.model.specs.Clock.{clockFits}
+use Rattle.model.specs.Fits.{fits, areasFit, coreFits, portFits, historyFits, memoryFits, replyFits, fileFits}
+use Rattle.model.specs.declared.Core.{Core}
+use Rattle.model.specs.declared.HistoryReply.{HistoryReply}
+use Rattle.model.specs.declared.Memory.{Memory}
+use Rattle.model.specs.declared.Memory.the-variants.{Nothing, Remembered}
+use Rattle.model.specs.declared.Port.{Port}
+use Rattle.model.proofs.Conditions.{by-bool, every-append, and-left, and-right, and-both}
+use Rattle.layout.specs.Numbers.{clockIn, coreIn, memoryIn, portIn, readable}
+use Rattle.layout.proofs.RangeLaws.{same-bool, readable-parts}
+use Rattle.layout.specs.Judged.{
+  filesBy,
+  keptBy,
+  fitsBy,
+  clockJudged,
+  holdJudged,
+  writeJudged,
+  bitsJudged,
+  memoryJudged,
+  portJudged,
+  coreJudged,
+  configJudged,
+}
+
+-- ---- tests in a row: the answer x where the first was passed, and where it was not
+
+module _ {a x : Bool} where
+  pub and-on : {b : Bool} → a ≡ true → x ≡ b → x ≡ (a && b)
+  and-on p q = rw p q
+
+  pub and-off : (b : Bool) → a ≡ false → x ≡ false → x ≡ (a && b)
+  and-off b p q = rw p q
+
+-- ---- every number of a run passes
+
+every-end : (f : ℕ → Bool) (ns : List ℕ) (n : ℕ) → every f (ns ++ (n ∷ [])) ≡ (every f ns && f n)
+unfolding every
+every-end f ns n = every-append f ns (n ∷ []) ∙ ap (λ (b : Bool). every f ns && b) (and-true (f n))
+
+every-start : (f : ℕ → Bool) → true ≡ every f (upFrom 0 0)
+unfolding every
+every-start f = rw up-none
+
+every-next : (f : ℕ → Bool) (i : ℕ) → every f (upFrom 0 (i + 1)) ≡ (every f (upFrom 0 i) && f i)
+every-next f i = let e : 0 + i ≡ i = omega arith in rw up-more (every-end f (upFrom 0 i) (0 + i) ∙ rw e)
+
+-- numbers joined by or are 0 where both are
+or-none : (a b : ℕ) → eqb (bitOr a b) 0 ≡ (eqb a 0 && eqb b 0)
+or-none zero b = rw or-zero-l
+or-none (suc a) b =
+    let e : bitOr (suc a) b ≡ 0 → ⊥ = λ q. omega (arith, or-add-and (suc a) b, and-le-r (suc a) b) in
+    let k : suc a ≡ 0 → ⊥ = λ q. omega arith in
+    rw (ne-eqb (bitOr (suc a) b) 0 e, ne-eqb (suc a) 0 k)
+
+-- two flags at once, which are told by numbers that are 0 where all is well
+and-cross : (a b c d : Bool) → ((a && b) && (c && d)) ≡ ((a && c) && (b && d))
+and-cross true b true d = refl
+and-cross true b false d = and-false b
+and-cross false b c d = refl
+
+pub both-start : (f g : ℕ → Bool) → eqb 0 0 ≡ (every f (upFrom 0 0) && every g (upFrom 0 0))
+both-start f g = rw (← every-start f, ← every-start g)
+
+pub both-next : (f g : ℕ → Bool) (i x y : ℕ) → eqb x 0 ≡ (every f (upFrom 0 i) && every g (upFrom 0 i)) → eqb y 0 ≡ (f i && g i)
+    → eqb (bitOr x y) 0 ≡ (every f (upFrom 0 (i + 1)) && every g (upFrom 0 (i + 1)))
+both-next f g i x y p q = rw (or-none x y, p, q, every-next f i, every-next g i, and-cross)
+
+pub both-done : (f g : ℕ → Bool) {b : Bool} {i n : ℕ} → b ≡ (every f (upFrom 0 i) && every g (upFrom 0 i)) → i ≡ n
+    → b ≡ (every f (upFrom 0 n) && every g (upFrom 0 n))
+both-done f g e q = rw q at e
+
+-- two tests that agree on each number of the run
+every-same : (f g : ℕ → Bool) (n : ℕ) → ((k : ℕ) → k < n → f k ≡ g k) → every f (upFrom 0 n) ≡ every g (upFrom 0 n)
+every-same f g zero h = sym (every-start f) ∙ every-start g
+every-same f g (suc n) h =
+    rw (← add-one, every-next, every-next, every-same f g n (λ k l. h k (omega arith)), h n (omega arith))
+
+-- ---- none of a run of a table is equipped
+
+part-clipped : (xs : List ℕ) (low i : ℕ) → length xs ≤ low + i → part xs low (i + 1) ≡ part xs low i
+unfolding part
+part-clipped xs low i h =
+    let l = length-drop low xs in
+    take-all (i + 1) (drop low xs) (omega (arith, l)) ∙ sym (take-all i (drop low xs) (omega (arith, l)))
+
+pub none-start : (table : List ℕ) (low : ℕ) → true ≡ noneIn table low 0
+unfolding noneIn every
+none-start table low = rw part-none
+
+-- past the end a table reads 0, which is not equipped
+none-next : (table : List ℕ) (low i : ℕ) → noneIn table low (i + 1) ≡ (noneIn table low i && eqb (getD table (low + i) 0) 0)
+unfolding noneIn
+none-next table low i =
+    by-bool (ltb (low + i) (length table))
+    (λ e. let h = ltb-true (low + i) (length table) e in rw (part-more table low i h) (every-end (λ x. eqb x 0) (part table low i) (getD table (low + i) 0)))
+    (λ e. let h = ltb-false (low + i) (length table) e in
+    rw (part-clipped table low i h, List·getD-eq-default table 0 {n = low + i} h) (sym (and-true _)))
+
+pub none-joined : (table : List ℕ) (low i any : ℕ) → eqb any 0 ≡ noneIn table low i → eqb (bitOr any (getD table (low + i) 0)) 0 ≡ noneIn table low (i + 1)
+none-joined table low i any e = rw (or-none, none-next, e)
+
+-- ---- what stands in for the records
+
+pub held-by : (counts : List ℕ) (f : ℕ) → length (heldIn (filesBy counts) f) ≡ getD counts f 0
+unfolding heldIn filesBy
+held-by [] f = refl
+held-by (n ∷ counts) zero = length-replicate n []
+held-by (n ∷ counts) (suc f) = held-by counts f
+
+-- ---- a file, by its tables
+
+over-none : (n limit : ℕ) → eqb (n - limit) 0 ≡ leb n limit
+over-none n limit =
+    same-bool (eqb (n - limit) 0) (leb n limit)
+    (λ e. let p : n - limit ≡ 0 = eqb-true (n - limit) 0 e in le-leb n limit (omega arith))
+    (λ e. let p : n ≤ limit = leb-true n limit e in eq-eqb (n - limit) 0 (omega arith))
+
+values-none : (n : ℕ) → eqb (cond (eqb n 0) 255 (n - 1) - 15) 0 ≡ within 1 16 n
+unfolding within
+values-none zero = refl
+values-none (suc n) =
+    let k : suc n ≡ 0 → ⊥ = λ q. omega arith in
+    rw (ne-eqb (suc n) 0 k, over-none, le-leb 1 (suc n) (omega arith))
+    (same-bool (leb (suc n - 1) 15) (leb (suc n) 16)
+    (λ e. let p : suc n - 1 ≤ 15 = leb-true (suc n - 1) 15 e in le-leb (suc n) 16 (omega arith))
+    (λ e. let p : suc n ≤ 16 = leb-true (suc n) 16 e in le-leb (suc n - 1) 15 (omega arith)))
+
+-- what a file has past its values, where it is equipped, and past its room
+pub file-wrong : (c : Config) (counts : List ℕ) (f : ℕ) {x v n b o w q room : ℕ} → f < 32
+    → getD (c .files) f 0 ≡ x → getD (c .values) f 0 ≡ v → getD counts f 0 ≡ n
+    → b ≡ cond (eqb v 0) 255 (v - 1) → o ≡ b - 15 → w ≡ cond (eqb x 0) 0 o → room ≡ cond (eqb x 0) 0 32 → q ≡ n - room
+    → eqb (bitOr w q) 0 ≡ (fileValid c f && fileFits c (filesBy counts) f)
+unfolding fileValid fileFits hasFile has
+file-wrong c counts f {x} {v} {n} {b} {o} {w} {q} {room} l e g h p r s t u =
+    rw (or-none w q, s, r, p, u, over-none n room, t, held-by counts f, e, g, h, lt-ltb f 32 l)
+    (by-bool (eqb x 0) (λ z. rw z) (λ z. rw (z, values-none v)))
+
+-- an equipped file is one of 32
+file-low : (files : List ℕ) (f : ℕ) → hasFile files f ≡ true → f < 32
+unfolding hasFile
+file-low files f e = ltb-true f 32 (and-left (ltb f 32) (has files f) e)
+
+-- fits asks of the files only how many records they hold
+module _ (c : Config) (fs gs : Files) (same : (f : ℕ) → f < 32 → length (heldIn fs f) ≡ length (heldIn gs f)) where
+  file-same : (f : ℕ) → f < 32 → fileFits c fs f ≡ fileFits c gs f
+  unfolding fileFits
+  file-same f h = rw (same f h)
+
+  reply-same : (t : HistoryReply) → replyFits c fs t ≡ replyFits c gs t
+  unfolding replyFits
+  reply-same t =
+      by-bool (hasFile (c .files) (t .file .0))
+      (λ e. rw (same (t .file .0) (file-low (c .files) (t .file .0) e)))
+      (λ e. rw e)
+
+  memory-same : (m : Memory) → memoryFits c fs m ≡ memoryFits c gs m
+  unfolding memoryFits
+  memory-same Nothing = refl
+  memory-same (Remembered t) = reply-same t
+
+  history-same : (m : Memory) → historyFits c (record { memory = m; files = fs }) ≡ historyFits c (record { memory = m; files = gs })
+  unfolding historyFits
+  history-same m = rw (every-same (fileFits c fs) (fileFits c gs) 32 file-same, memory-same m)
+
+-- the parts of the judgement, in their order
+fits-parts : (c : Config) (lent : ℕ) (counts : List ℕ) (core : Core) (memory : Memory) (port : Port)
+    → fitsBy c lent counts core memory port
+    ≡ (validOf c && (portFits port && (coreFits c core && (eqb lent (c .block) && historyFits c (record { memory = memory; files = filesBy counts })))))
+unfolding fitsBy keptBy fits areasFit
+fits-parts c lent counts core memory port = rw (length-replicate {A = ℕ} lent 0)
+
+-- judged by the counts, a unit that holds so many records is judged as by its records
+pub fits-by : (c : Config) (lent : ℕ) (counts : List ℕ) (core : Core) (memory : Memory) (port : Port) (areas : Areas) (fs : Files)
+    → length (areas .block) ≡ lent
+    → ((f : ℕ) → f < 32 → length (heldIn fs f) ≡ getD counts f 0)
+    → fitsBy c lent counts core memory port
+    ≡ fits c (record { inner = record { core = core; areas = areas; history = record { memory = memory; files = fs } }; port = port })
+unfolding fits areasFit
+fits-by c lent counts core memory port areas fs e same =
+    rw (fits-parts, e, history-same c fs (filesBy counts) (λ f h. same f h ∙ sym (held-by counts f)) memory)
+
+-- ---- numbers in place of what they mean
+
+-- four numbers as one, which is 0 where each of them is
+abbrev four : ℕ → ℕ → ℕ → ℕ → ℕ
+four a b c d = a + b * 0x10000 + c * 0x100000000 + d * 0x1000000000000
+
+pub zeros-one : {a b c d w x y z : ℕ} → w ≡ a → x ≡ b → y ≡ c → z ≡ d
+    → eqb (four w x y z) 0 ≡ (eqb a 0 && eqb b 0 && eqb c 0 && eqb d 0)
+zeros-one {a} {b} {c} {d} {w} {x} {y} {z} p q r s =
+    same-bool (eqb (four w x y z) 0) (eqb a 0 && eqb b 0 && eqb c 0 && eqb d 0)
+    (λ e. let n : four w x y z ≡ 0 = eqb-true (four w x y z) 0 e in
+    and-both (and-both (and-both (eq-eqb a 0 (omega arith)) (eq-eqb b 0 (omega arith))) (eq-eqb c 0 (omega arith))) (eq-eqb d 0 (omega arith)))
+    (λ e. let three = and-left (eqb a 0 && eqb b 0 && eqb c 0) (eqb d 0) e in
+    let two = and-left (eqb a 0 && eqb b 0) (eqb c 0) three in
+    let k : a ≡ 0 = eqb-true a 0 (and-left (eqb a 0) (eqb b 0) two) in
+    let l : b ≡ 0 = eqb-true b 0 (and-right (eqb a 0) (eqb b 0) two) in
+    let m : c ≡ 0 = eqb-true c 0 (and-right (eqb a 0 && eqb b 0) (eqb c 0) three) in
+    let n : d ≡ 0 = eqb-true d 0 (and-right (eqb a 0 && eqb b 0 && eqb c 0) (eqb d 0) e) in
+    eq-eqb (four w x y z) 0 (omega arith))
+
+-- a number up to a limit below 256 is a byte, up to that limit
+pub byte-low : (k n : ℕ) → k < 256 → leb n k ≡ (ltb n 256 && leb (n % 256) k)
+byte-low k n l =
+    by-bool (ltb n 256) (λ e. rw (e, mod-eq-of-lt (ltb-true n 256 e)))
+    (λ e. rw e (lt-leb n k (omega (arith, ltb-false n 256 e))))
+
+bytes-first : (a b c d e x y z t : Bool)
+    → (d && e && (a && x) && (b && y) && (c && z) && t) ≡ ((a && b && c) && ((d && e) && (x && (y && (z && t)))))
+bytes-first true true true d e x y z t = simp and-assoc
+bytes-first false b c d e x y z t = simp and-false
+bytes-first true false c d e x y z t = simp and-false
+bytes-first true true false d e x y z t = simp and-false
+
+pub clock-judged : (ks : List ℕ)
+    → (leb 1 (getD ks 0 0) && leb (getD ks 0 0) 366 && leb (getD ks 1 0) 23 && leb (getD ks 2 0) 59 && leb (getD ks 3 0) 59 && leb (getD ks 4 0) 999)
+    ≡ clockJudged ks
+unfolding clockJudged clockFits clockIn within
+clock-judged ks =
+    rw (byte-low 23 (getD ks 1 0) (omega arith), byte-low 59 (getD ks 2 0) (omega arith), byte-low 59 (getD ks 3 0) (omega arith), bytes-first)
+
+-- ---- the judgement in the order of the code
+
+turned : (a h w b m k u n x y z v p t g s l f r : Bool)
+    → ((a && (h && (w && (b && (m && k))))) && ((u && (n && (x && (y && (z && v))))) && (p && ((t && (g && s)) && (l && (f && r))))))
+    ≡ (((a && t) && ((h && g) && ((w && s) && (b && (k && p))))) && ((u && (n && (l && (x && (y && z))))) && ((v && f) && (m && r))))
+turned true true true true true true true true true true true true true t g s l f r = simp and-assoc
+turned false h w b m k u n x y z v p t g s l f r = refl
+turned true false w b m k u n x y z v p t g s l f r = simp and-false
+turned true true false b m k u n x y z v p t g s l f r = simp and-false
+turned true true true false m k u n x y z v p t g s l f r = simp and-false
+turned true true true true false k u n x y z v p t g s l f r = simp and-false
+turned true true true true true false u n x y z v p t g s l f r = simp and-false
+turned true true true true true true false n x y z v p t g s l f r = simp and-false
+turned true true true true true true true false x y z v p t g s l f r = simp and-false
+turned true true true true true true true true false y z v p t g s l f r = simp and-false
+turned true true true true true true true true true false z v p t g s l f r = simp and-false
+turned true true true true true true true true true true false v p t g s l f r = simp and-false
+turned true true true true true true true true true true true false p t g s l f r = simp and-false
+turned true true true true true true true true true true true true false t g s l f r = simp and-false
+
+pub in-turn : (c : Config) (lent : ℕ) (counts ks : List ℕ) → length ks ≡ 26
+    → (readable ks && fitsBy c lent counts (coreIn ks) (memoryIn ks) (portIn ks))
+    ≡ (coreJudged c ks && (configJudged c lent
+    && ((every (fileValid c) (upFrom 0 32) && every (fileFits c (filesBy counts)) (upFrom 0 32)) && memoryJudged c counts ks)))
+unfolding validOf coreFits historyFits coreIn memoryIn clockJudged holdJudged writeJudged bitsJudged memoryJudged portJudged coreJudged configJudged
+in-turn c lent counts ks l = rw (readable-parts ks l, fits-parts, turned)
