@@ -10,7 +10,7 @@ use Rattle.model.specs.Line.{storedBy, storedIn, releasedIn}
 use Rattle.model.specs.Damage.{Damaged, AlikeEntry, AlikeTrace, none, more}
 use Rattle.model.specs.Demand3.{heldBy, Demand3}
 use Rattle.model.proofs.Damage.{damage, after-append, trace-append}
-use Rattle.model.proofs.Records.{records, remembered, came, accounted}
+use Rattle.model.proofs.Records.{records, remembered, came, accounted, repeated}
 
 -- ---- the records of a run with a damaged stretch are those of the run without it
 
@@ -58,5 +58,6 @@ demand-3 c =
       records = records c;
       events = accounted c;
       latest = λ es e. came c (trace c es) e;
+      repeats = λ es e k. repeated c es e k;
       memory = remembered c;
     }

@@ -20,3 +20,7 @@ pub mod Releases
 pub mod Records
 pub mod Demand3
 pub mod Worked
+pub mod LowFirst
+pub mod SetTime
+pub mod Broadcasts
+pub mod Nibbles

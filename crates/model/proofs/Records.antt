@@ -97,8 +97,8 @@ module _ (c : Config) where
 
 -- ---- the latest history reply is an entry of the trace
 
-module _ (c : Config) {m : Master} {f : ℕ} {rs : List (List ℕ)} where
-  one-more : (x : Entry) {xs : List Entry} → Came c xs m f rs → Came c (x ∷ xs) m f rs
+module _ (c : Config) {m : Master} {f : ℕ} {ys : List ℕ} {rs : List (List ℕ)} where
+  one-more : (x : Entry) {xs : List Entry} → Came c xs m f ys rs → Came c (x ∷ xs) m f ys rs
   one-more x k =
       record {
         earlier = x ∷ k .earlier;
@@ -110,27 +110,27 @@ module _ (c : Config) {m : Master} {f : ℕ} {rs : List (List ℕ)} where
         unshown = k .unshown;
       }
 
-  came-now : (l : Latest) (x : Entry) (xs : List Entry) (y : Shown) → shown c x ≡ y → latestAfter l y ≡ gave m f rs → Unshown c xs
-      → ((l ≡ gave m f rs) × Unshown c (x ∷ xs)) ⊎ Came c (x ∷ xs) m f rs
+  came-now : (l : Latest) (x : Entry) (xs : List Entry) (y : Shown) → shown c x ≡ y → latestAfter l y ≡ gave m f ys rs → Unshown c xs
+      → ((l ≡ gave m f ys rs) × Unshown c (x ∷ xs)) ⊎ Came c (x ∷ xs) m f ys rs
   unfolding latestAfter
-  came-now l x xs (told p h a ps) e k u =
+  came-now l x xs (told p h a zs ps) e k u =
       inr (record { earlier = []; reply = x; later = xs; parts = refl; acknowledged = a; carrying = (cc); unshown = u })
   came-now l x xs forgot e k u = let z : _≡_ {A = ℕ} 0 1 = cc in absurd (omega arith)
   came-now l x xs other e k u = inl (k, one e u)
 
-  came-from : (l : Latest) (xs : List Entry) → latestFrom c l xs ≡ gave m f rs → ((l ≡ gave m f rs) × Unshown c xs) ⊎ Came c xs m f rs
+  came-from : (l : Latest) (xs : List Entry) → latestFrom c l xs ≡ gave m f ys rs → ((l ≡ gave m f ys rs) × Unshown c xs) ⊎ Came c xs m f ys rs
   unfolding latestFrom
   came-from l [] e = inl (e, none)
   came-from l (x ∷ xs) e = go (came-from (latestAfter l (shown c x)) xs e)
     where
-      go : ((latestAfter l (shown c x) ≡ gave m f rs) × Unshown c xs) ⊎ Came c xs m f rs → ((l ≡ gave m f rs) × Unshown c (x ∷ xs)) ⊎ Came c (x ∷ xs) m f rs
+      go : ((latestAfter l (shown c x) ≡ gave m f ys rs) × Unshown c xs) ⊎ Came c xs m f ys rs → ((l ≡ gave m f ys rs) × Unshown c (x ∷ xs)) ⊎ Came c (x ∷ xs) m f ys rs
       go (inl k) = came-now l x xs (shown c x) refl (k .0) (k .1)
       go (inr k) = inr (one-more x k)
 
-  pub came : (xs : List Entry) → latestIn c xs ≡ gave m f rs → Came c xs m f rs
+  pub came : (xs : List Entry) → latestIn c xs ≡ gave m f ys rs → Came c xs m f ys rs
   came xs e = go (came-from nobody xs e)
     where
-      go : ((nobody ≡ gave m f rs) × Unshown c xs) ⊎ Came c xs m f rs → Came c xs m f rs
+      go : ((nobody ≡ gave m f ys rs) × Unshown c xs) ⊎ Came c xs m f ys rs → Came c xs m f ys rs
       go (inl k) = let n = k .0 in let z : _≡_ {A = ℕ} 0 1 = cc in absurd (omega arith)
       go (inr k) = k
 
@@ -139,19 +139,20 @@ module _ (c : Config) {m : Master} {f : ℕ} {rs : List (List ℕ)} where
 acknowledged : (c : Config) (l : Latest) (x : Entry) (g : ℕ) (y : Shown) → shown c x ≡ y → (releasedBy l y g ≡ [] → ⊥) → Acknowledged c l x g
 unfolding releasedBy shown
 acknowledged c nobody x g y e n = absurd (n refl)
-acknowledged c (gave m f rs) x g forgot e n = absurd (n refl)
-acknowledged c (gave m f rs) x g other e n = absurd (n refl)
-acknowledged c (gave m f rs) x g (told p h false ps) e n = absurd (n refl)
-acknowledged c (gave m f rs) x g (told p h true ps) e n = go (isOf m p) (eqb f g) refl refl n
+acknowledged c (gave m f ys rs) x g forgot e n = absurd (n refl)
+acknowledged c (gave m f ys rs) x g other e n = absurd (n refl)
+acknowledged c (gave m f ys rs) x g (told p h false zs ps) e n = absurd (n refl)
+acknowledged c (gave m f ys rs) x g (told p h true zs ps) e n = go (isOf m p) (eqb f g) refl refl n
   where
-    go : (b d : Bool) → isOf m p ≡ b → eqb f g ≡ d → (cond (b && d) rs [] ≡ [] → ⊥) → Acknowledged c (gave m f rs) x g
+    go : (b d : Bool) → isOf m p ≡ b → eqb f g ≡ d → (cond (b && d) rs [] ≡ [] → ⊥) → Acknowledged c (gave m f ys rs) x g
     go true true u v k =
         record {
           master = p;
-          request = asked c x p h ps (x .event) refl e;
+          request = asked c x p h zs ps (x .event) refl e;
+          chars = ys;
           latest =
-              ap₂ (λ (a : Master) (b : ℕ). gave a b rs) (same-master m p u) (eqb-true f g v)
-              ∙ ap (gave p g) (sym (ap (λ (z : Shown). releasedBy (gave m f rs) z g) e ∙ ap₂ (λ (a b : Bool). cond (a && b) rs []) u v));
+              ap₂ (λ (a : Master) (b : ℕ). gave a b ys rs) (same-master m p u) (eqb-true f g v)
+              ∙ ap (gave p g ys) (sym (ap (λ (z : Shown). releasedBy (gave m f ys rs) z g) e ∙ ap₂ (λ (a b : Bool). cond (a && b) rs []) u v));
         }
     go true false u v k = absurd (k refl)
     go false d u v k = absurd (k refl)
@@ -163,3 +164,9 @@ accounted c es e g =
       balance = moved-on c (after c es) (latestIn c (trace c es)) (run-matches c es) (run-formed c es) e .moved g;
       release = acknowledged c (latestIn c (trace c es)) (entryOf c (after c es) e) g _ refl;
     }
+
+-- a repeat carries the data of the latest history reply, to the same master
+pub repeated : (c : Config) (es : List Event) (e : Event) {m : Master} {f : ℕ} {ys : List ℕ} {rs : List (List ℕ)}
+    → shown c (entryOf c (after c es) e) ≡ told m f false ys rs → Came c (trace c es) m f ys rs
+repeated c es e k =
+    came c (trace c es) (moved-on c (after c es) (latestIn c (trace c es)) (run-matches c es) (run-formed c es) e .repeats k)

@@ -2,7 +2,7 @@
 use Prim.Native.Nat.{ℕ, _+_, _*_, _/_, _≤_, _<_, min}
 use mathlib.Core.Path.{_≡_, refl, sym, ap, _∙_}
 use mathlib.Core.List.{List, [], _∷_, _++_, append-nil}
-use mathlib.Core.Bool.{Bool, true, false, cond, _&&_, Bool·beq}
+use mathlib.Core.Bool.{Bool, true, false, cond, not, _&&_, Bool·beq}
 use lib.ListN.{length, getD, take, length-append}
 use lib.Seq.{take-append-le}
 use lib.Dec.{eqb, ltb}
@@ -15,7 +15,7 @@ use Rattle.model.specs.Config.{Config, hasFile, sizeOf}
 use Rattle.model.specs.State.{Areas, Files, History, Inner, heldIn, storeIn, releaseIn}
 use Rattle.model.specs.Scan.{counts}
 use Rattle.model.specs.Control.{isOf, breaks}
-use Rattle.model.specs.History.{Told, acknowledges, dumps, fileOf, untold, historyChars, releaseFor, mostOf, toldFrom, agrees, againWhen, historyOf, recordChars, storedAs}
+use Rattle.model.specs.History.{Told, acknowledges, dumps, fileOf, untold, flat, historyChars, releaseFor, mostOf, toldFrom, agrees, againWhen, historyOf, recordChars, storedAs}
 use Rattle.model.specs.Step.{Event, stretch, elapsed, setWord, setValue, pulses, store, Step, refused, Made, quiet, finished, beside, brokenOff, historyMade, initialises, restarted, forgotten, initialised, served, otherOf, broadcastOf, broadcastMade, framed, judged, elapsedMade, localMade, wordMade, valueMade, storeMade, makeOf}
 use Rattle.model.specs.Port.{sentChars}
 use Rattle.model.specs.Formed.{AllSized}
@@ -36,7 +36,7 @@ use Rattle.model.specs.declared.Core.{Core}
 use Rattle.model.specs.declared.HistoryReply.{HistoryReply}
 use Rattle.model.specs.declared.Memory.{Memory}
 use Rattle.model.specs.declared.Memory.the-variants.{Nothing, Remembered}
-use Rattle.model.proofs.Conditions.{by-cond, and-left, and-right}
+use Rattle.model.proofs.Conditions.{by-cond, false-true, and-left, and-right}
 use Rattle.model.proofs.FileLaws.{held-store, held-release, stored-kept}
 use Rattle.model.proofs.Shape.{sized-rest}
 use Rattle.model.proofs.Shown.{shown-beside, shown-refused, shown-forgot, shown-told}
@@ -52,10 +52,20 @@ pub record Matches (h : History) (l : Latest) : Type 0 where
   pub latest : l ≡ rememberedAs (h .memory) (h .files)
   pub holds : Holds (h .memory) (h .files)
 
--- one event: what was held and what is stored is what is released and what is held then; and memory and line match again
+-- one event: a repeat shows what was shown last; what was held and what is stored is what is released and what is held then; and memory and line match again
 pub record Moved (l : Latest) (h : History) (x : Shown) (new : ℕ → List (List ℕ)) (k : History) : Type 0 where
+  pub repeats : {m : Master} {f : ℕ} {ys : List ℕ} {rs : List (List ℕ)} → x ≡ told m f false ys rs → l ≡ gave m f ys rs
   pub moved : (g : ℕ) → heldIn (h .files) g ++ new g ≡ releasedBy l x g ++ heldIn (k .files) g
   pub matches : Matches k (latestAfter l x)
+
+-- what is no repeat
+abbrev repeats : Shown → Bool
+repeats (told m f a ys rs) = not a
+repeats forgot = false
+repeats other = false
+
+shown-else : {X : Type 0} {x : Shown} {m : Master} {f : ℕ} {ys : List ℕ} {rs : List (List ℕ)} → repeats x ≡ false → x ≡ told m f false ys rs → X
+shown-else e r = false-true (sym e ∙ ap repeats r)
 
 abbrev nothing : ℕ → List (List ℕ)
 nothing g = []
@@ -67,24 +77,24 @@ as-shown e m = rw e m
 released-other : (l : Latest) (g : ℕ) → releasedBy l other g ≡ []
 unfolding releasedBy
 released-other nobody g = refl
-released-other (gave m f rs) g = refl
+released-other (gave m f ys rs) g = refl
 
 released-forgot : (l : Latest) (g : ℕ) → releasedBy l forgot g ≡ []
 unfolding releasedBy
 released-forgot nobody g = refl
-released-forgot (gave m f rs) g = refl
+released-forgot (gave m f ys rs) g = refl
 
-released-repeat : (l : Latest) (m : Master) (f : ℕ) (ps : List (List ℕ)) (g : ℕ) → releasedBy l (told m f false ps) g ≡ []
+released-repeat : (l : Latest) (m : Master) (f : ℕ) (zs : List ℕ) (ps : List (List ℕ)) (g : ℕ) → releasedBy l (told m f false zs ps) g ≡ []
 unfolding releasedBy
-released-repeat nobody m f ps g = refl
-released-repeat (gave h k rs) m f ps g = refl
+released-repeat nobody m f zs ps g = refl
+released-repeat (gave h k ys rs) m f zs ps g = refl
 
 unreleased : (fs : Files) (g : ℕ) {rs : List (List ℕ)} → rs ≡ [] → heldIn fs g ++ [] ≡ rs ++ heldIn fs g
 unreleased fs g e = rw e (append-nil (heldIn fs g))
 
 still : {l : Latest} {h : History} → Matches h l → {x : Shown} → x ≡ other → Moved l h x nothing h
 unfolding latestAfter
-still {l} {h} t e = rw e (record { moved = λ g. unreleased (h .files) g (released-other l g); matches = t })
+still {l} {h} t e = rw e (record { repeats = shown-else refl; moved = λ g. unreleased (h .files) g (released-other l g); matches = t })
 
 -- ---- what a release takes, and how many records a reply tells
 
@@ -99,11 +109,11 @@ file-quantity values f d n = by-cond (λ k. min n k < 128) d (λ e. omega (arith
         div-lt-iff-lt-mul k .1 h
 
 -- the records of the latest reply, if it went to this master, stood before what is held then
-released-for : (w : Memory) (fs : Files) (m : Master) (f : ℕ) (ps : List (List ℕ)) (g : ℕ)
-    → heldIn fs g ≡ releasedBy (rememberedAs w fs) (told m f true ps) g ++ heldIn (releaseFor w fs m) g
+released-for : (w : Memory) (fs : Files) (m : Master) (f : ℕ) (zs : List ℕ) (ps : List (List ℕ)) (g : ℕ)
+    → heldIn fs g ≡ releasedBy (rememberedAs w fs) (told m f true zs ps) g ++ heldIn (releaseFor w fs m) g
 unfolding releaseFor releasedBy
-released-for Nothing fs m f ps g = refl
-released-for (Remembered t) fs m f ps g = go (isOf (t .master) m)
+released-for Nothing fs m f zs ps g = refl
+released-for (Remembered t) fs m f zs ps g = go (isOf (t .master) m)
   where
     go : (a : Bool) → heldIn fs g ≡ cond (a && eqb (t .file .0) g) (take (t .quantity) (heldIn fs (t .file .0))) [] ++ heldIn (cond a (releaseIn fs (t .file .0) (t .quantity)) fs) g
     go true = held-release fs (t .file .0) g (t .quantity)
@@ -111,7 +121,7 @@ released-for (Remembered t) fs m f ps g = go (isOf (t .master) m)
 
 -- what is left is sized as before
 sized-for : {n : ℕ} (w : Memory) (fs : Files) (m : Master) (g : ℕ) → AllSized n (heldIn fs g) → AllSized n (heldIn (releaseFor w fs m) g)
-sized-for w fs m g h = sized-rest (releasedBy (rememberedAs w fs) (told m 0 true []) g) (rw (released-for w fs m 0 [] g) at h)
+sized-for w fs m g h = sized-rest (releasedBy (rememberedAs w fs) (told m 0 true [] []) g) (rw (released-for w fs m 0 [] [] g) at h)
 
 -- ---- a frame for this unit
 
@@ -131,7 +141,7 @@ module _ (c : Config) (l : Latest) (i : Inner) (mark : Mark) (q : Request) (t : 
 
   forgot-moved : Moved l (i .history) forgot nothing (forgotten (i .history))
   unfolding forgotten latestAfter
-  forgot-moved = record { moved = λ g. unreleased (i .history .files) g (released-forgot l g); matches = record { latest = refl; holds = tt } }
+  forgot-moved = record { repeats = shown-else refl; moved = λ g. unreleased (i .history .files) g (released-forgot l g); matches = record { latest = refl; holds = tt } }
 
   forgot-fine : initialises q ≡ true → Fine c l i mark q (finished (i .core) q (refused Done (restarted (i .core)) (i .areas)) (forgotten (i .history)))
   unfolding Fine finished refused
@@ -152,14 +162,15 @@ module _ (c : Config) (l : Latest) (i : Inner) (mark : Mark) (q : Request) (t : 
   left = releaseFor (i .history .memory) (i .history .files) (masterOf (q .address))
 
   told-moved : (n : ℕ) (b : Bool) → n < 128 → n ≤ length (heldIn left (fileOf q))
-      → Moved l (i .history) (told (masterOf (q .address)) (fileOf q) true (take n (heldIn left (fileOf q)))) nothing
+      → Moved l (i .history) (told (masterOf (q .address)) (fileOf q) true (historyChars n b (heldIn left (fileOf q))) (take n (heldIn left (fileOf q)))) nothing
       (record { memory = Remembered (record { master = masterOf (q .address); file = record { 0 = fileOf q }; dump = dumps q; quantity = n; more = b }); files = left })
   unfolding latestAfter
   told-moved n b few most =
+      let zs = historyChars n b (heldIn left (fileOf q)) in
       let ps = take n (heldIn left (fileOf q)) in
-      let k : (g : ℕ) → heldIn (i .history .files) g ≡ releasedBy l (told (masterOf (q .address)) (fileOf q) true ps) g ++ heldIn left g =
-      λ g. rw (t .latest) (released-for (i .history .memory) (i .history .files) (masterOf (q .address)) (fileOf q) ps g) in
-      record { moved = λ g. append-nil (heldIn (i .history .files) g) ∙ k g; matches = record { latest = refl; holds = (most, few) } }
+      let k : (g : ℕ) → heldIn (i .history .files) g ≡ releasedBy l (told (masterOf (q .address)) (fileOf q) true zs ps) g ++ heldIn left g =
+      λ g. rw (t .latest) (released-for (i .history .memory) (i .history .files) (masterOf (q .address)) (fileOf q) zs ps g) in
+      record { repeats = shown-else refl; moved = λ g. append-nil (heldIn (i .history .files) g) ∙ k g; matches = record { latest = refl; holds = (most, few) } }
 
   module _ (sized : (g : ℕ) → AllSized (sizeOf (c .values) g) (heldIn (i .history .files) g)) (a : q .function ≡ 0x04) where
     acked-fine : acknowledges q ≡ true → Fine c l i mark q (historyMade i q (toldFrom (c .values) left q))
@@ -171,7 +182,7 @@ module _ (c : Config) (l : Latest) (i : Inner) (mark : Mark) (q : Request) (t : 
         let most : n ≤ length rs = omega arith in
         let m = told-moved n (ltb n (length rs)) few most in
         let e = shown-told c q i mark n (ltb n (length rs)) rs (toldFrom (c .values) left q .history) a few most (sized-for (i .history .memory) (i .history .files) (masterOf (q .address)) (fileOf q) (sized (fileOf q))) in
-        as-shown (e ∙ ap (λ (x : Bool). told (masterOf (q .address)) (fileOf q) x (take n rs)) k) m
+        as-shown (e ∙ ap (λ (x : Bool). told (masterOf (q .address)) (fileOf q) x (historyChars n (ltb n (length rs)) rs) (take n rs)) k) m
 
 -- a repeat: the same records to the same master
 abbrev holding : Core → Areas → Memory → Files → Inner
@@ -200,10 +211,12 @@ module _ (c : Config) (l : Latest) (k : Core) (a : Areas) (fs : Files) (mark : M
       let e =
       shown-told c q (holding k a (Remembered r) fs) mark (r .quantity) (r .more) (heldIn fs (r .file .0)) (record { memory = Remembered r; files = fs }) function (t .holds .1) (t .holds .0)
       (rw (← ef) (sized (r .file .0))) in
-      let s : told (masterOf (q .address)) (fileOf q) (acknowledges q) rs ≡ told (r .master) (r .file .0) false rs = rw (← em, ← ef, plain) in
+      let zs = historyChars (r .quantity) (r .more) (heldIn fs (r .file .0)) in
+      let s : told (masterOf (q .address)) (fileOf q) (acknowledges q) zs rs ≡ told (r .master) (r .file .0) false zs rs = rw (← em, ← ef, plain) in
       as-shown (e ∙ s)
       (record {
-        moved = λ g. unreleased fs g (released-repeat l (r .master) (r .file .0) rs g);
+        repeats = λ again. t .latest ∙ ap (latestAfter l) again;
+        moved = λ g. unreleased fs g (released-repeat l (r .master) (r .file .0) zs rs g);
         matches = record { latest = refl; holds = t .holds };
       })
 
@@ -271,9 +284,13 @@ FineEvent c l i mark e m = Moved l (i .history) (shownBy c e (sentChars mark (m 
 -- a record more at the end of its file: the remembered records stay the oldest
 same-store : (w : Memory) (fs gs : Files) (new : ℕ → List (List ℕ)) → ((g : ℕ) → heldIn gs g ≡ heldIn fs g ++ new g) → Holds w fs
     → (rememberedAs w fs ≡ rememberedAs w gs) × Holds w gs
+unfolding historyChars
 same-store Nothing fs gs new e h = (refl, tt)
 same-store (Remembered t) fs gs new e h =
-    (ap (gave (t .master) (t .file .0)) (sym (ap (take (t .quantity)) (e (t .file .0)) ∙ take-append-le (t .quantity) (heldIn fs (t .file .0)) (new (t .file .0)) (h .0))), (omega (arith, ap length (e (t .file .0)), length-append (heldIn fs (t .file .0)) (new (t .file .0)), h .0), h .1))
+    let n = t .quantity in
+    let f = t .file .0 in
+    let k : take n (heldIn fs f) ≡ take n (heldIn gs f) = sym (ap (take n) (e f) ∙ take-append-le n (heldIn fs f) (new f) (h .0)) in
+    (ap (λ (rs : List (List ℕ)). gave (t .master) f ((n + cond (t .more) 128 0) ∷ flat rs) rs) k, (omega (arith, ap length (e f), length-append (heldIn fs f) (new f), h .0), h .1))
 
 module _ (c : Config) (l : Latest) (i : Inner) (mark : Mark) (t : Matches (i .history) l) where
   store-moved : (f : ℕ) (r : List ℕ) → f < length (i .history .files)
@@ -284,6 +301,7 @@ module _ (c : Config) (l : Latest) (i : Inner) (mark : Mark) (t : Matches (i .hi
       let k : (g : ℕ) → heldIn (storeIn fs f r) g ≡ heldIn fs g ++ cond (eqb f g) (r ∷ []) [] = λ g. held-store fs f g r there in
       let s = same-store (i .history .memory) fs (storeIn fs f r) (λ g. cond (eqb f g) (r ∷ []) []) k (t .holds) in
       record {
+        repeats = shown-else refl;
         moved = λ g. sym (k g) ∙ ap (λ (x : List (List ℕ)). x ++ heldIn (storeIn fs f r) g) (sym (released-other l g));
         matches = record { latest = t .latest ∙ s .0; holds = s .1 };
       }

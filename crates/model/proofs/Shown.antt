@@ -1,14 +1,16 @@
 -- What a reply shows of history on the line: the records that it carries are read back, and no refusal shows any. Assumes nothing.
-use Prim.Native.Nat.{ℕ, zero, suc, _+_, _%_, _≤_, _<_}
+use Prim.Native.Nat.{ℕ, zero, suc, _+_, _-_, _%_, _≤_, _<_}
 use mathlib.Core.Path.{_≡_, refl, sym, ap, ap₂, _∙_}
 use mathlib.Core.List.{List, _∷_, _++_, append-assoc}
 use mathlib.Core.Bool.{Bool, true, false, cond, _&&_, and-false}
-use lib.ListN.{length, getD, take}
+use lib.ListN.{length, getD, take, length-append}
 use lib.Seq.{take-at, drop-at, length-take-le}
 use lib.Dec.{eqb}
 use native.Mathlib.Omega.{arith}
 use borrow.Author.Tests.{eqb-true, ne-eqb}
+use Rattle.chars.specs.Put.{part}
 use Rattle.chars.specs.Word.{word}
+use Rattle.checkword.specs.Check.{checkOf}
 use Rattle.model.specs.Frame.{Request, masterOf, heardOf, requestIn, withCheck, headChars, replyChars}
 use Rattle.model.specs.Outcome.{replyFunction}
 use Rattle.model.specs.Config.{Config, sizeOf}
@@ -18,9 +20,10 @@ use Rattle.model.specs.Step.{Event, stretch, elapsed, setWord, setValue,
 use Rattle.model.specs.Port.{sentChars}
 use Rattle.model.specs.Run.{Entry}
 use Rattle.model.specs.Formed.{AllSized, none, one}
-use Rattle.model.specs.Line.{chunks, carried, told, forgot, other, shownFor, shownIn, shownBy}
+use Rattle.model.specs.Line.{chunks, dataOf, carried, told, forgot, other, shownFor, shownIn, shownBy}
 use Rattle.model.specs.Demand3.{Acknowledging}
 use Rattle.model.specs.declared.Outcome.the-variants.{Done}
+use Rattle.model.specs.declared.Reply.{Reply}
 use Rattle.model.specs.declared.Sending.{Sending}
 use Rattle.model.specs.declared.Sending.the-variants.{Normal, Nop, Rst, Unanswered}
 use Rattle.model.specs.declared.Master.{Master}
@@ -55,6 +58,14 @@ records-back size n b rs s few most sized =
     ap (λ (k : ℕ). chunks k size (flat (take n rs) ++ s)) (quantity-back n b few ∙ sym (length-take-le n rs most))
     ∙ chunks-flat size s (sized-front n sized)
 
+-- the data of a reply are what it was made of
+data-back : (r : Reply) (ys : List ℕ) → dataOf (replyChars r ys) ≡ ys
+unfolding dataOf part replyChars withCheck headChars word
+data-back r ys =
+    let w = word (checkOf (headChars r ++ ys)) in
+    let e : length ys ≡ length (replyChars r ys) - 9 = omega (arith, length-append ys w) in
+    take-at ys w (length (replyChars r ys) - 9) e
+
 -- ---- what each reply shows
 
 module _ (c : Config) (q : Request) where
@@ -88,23 +99,24 @@ module _ (c : Config) (q : Request) where
   pub shown-told : (i : Inner) (mark : Mark) (n : ℕ) (b : Bool) (rs : List (List ℕ)) (h : History)
       → q .function ≡ 0x04 → n < 128 → n ≤ length rs → AllSized (sizeOf (c .values) (fileOf q)) rs
       → shownFor c q (sentChars mark (historyMade i q (record { outcome = Done; chars = historyChars n b rs; history = h }) .sent))
-      ≡ told (masterOf (q .address)) (fileOf q) (acknowledges q) (take n rs)
+      ≡ told (masterOf (q .address)) (fileOf q) (acknowledges q) (historyChars n b rs) (take n rs)
   unfolding shownFor historyMade finished replyFunction sentAs sentChars replyChars headChars withCheck word carried historyChars
   shown-told i mark n b rs h a few most sized =
-      simp a (ap (told (masterOf (q .address)) (fileOf q) (acknowledges q)) (records-back (sizeOf (c .values) (fileOf q)) n b rs _ few most sized))
+      simp a
+      (ap₂ (told (masterOf (q .address)) (fileOf q) (acknowledges q)) (data-back _ _) (records-back (sizeOf (c .values) (fileOf q)) n b rs _ few most sized))
 
 -- ---- and back: an entry that shows an acknowledging request
 
-module _ (c : Config) (x : Entry) (m : Master) (f : ℕ) (ps : List (List ℕ)) where
+module _ (c : Config) (x : Entry) (m : Master) (f : ℕ) (zs : List ℕ) (ps : List (List ℕ)) where
   asked-for : (room : ℕ) (s : List ℕ) (h : Heard) → x .event ≡ stretch room s → heardOf s ≡ h
-      → shownIn c s h (x .result .reply) ≡ told m f true ps → Acknowledging x m
+      → shownIn c s h (x .result .reply) ≡ told m f true zs ps → Acknowledging x m
   unfolding shownIn shownFor requestIn
   asked-for room s Broken e k d = let z : _≡_ {A = ℕ} 0 1 = cc in absurd (omega arith)
   asked-for room s Wrong e k d = let z : _≡_ {A = ℕ} 0 1 = cc in absurd (omega arith)
   asked-for room s (Whole h) e k d = go (eqb (getD (x .result .reply) 2 0) 0x04) (eqb (h .function) 0x04) (eqb (getD (x .result .reply) 2 0) 0x20 && initialises (requestIn h s)) refl refl d
     where
       go : (a b : Bool) (o : Bool) → eqb (getD (x .result .reply) 2 0) 0x04 ≡ a → eqb (h .function) 0x04 ≡ b
-          → cond (a && b) (told (masterOf (h .address)) (fileOf (requestIn h s)) (acknowledges (requestIn h s)) (carried c (fileOf (requestIn h s)) (x .result .reply))) (cond o forgot other) ≡ told m f true ps
+          → cond (a && b) (told (masterOf (h .address)) (fileOf (requestIn h s)) (acknowledges (requestIn h s)) (dataOf (x .result .reply)) (carried c (fileOf (requestIn h s)) (x .result .reply))) (cond o forgot other) ≡ told m f true zs ps
           → Acknowledging x m
       go true true o u v d = record { room = room; chars = s; head = h; came = e; heard = k; function = eqb-true _ _ v; bit = (cc); master = (cc); answered = eqb-true _ _ u }
       go true false true u v d = let z : _≡_ {A = ℕ} 0 1 = cc in absurd (omega arith)
@@ -112,7 +124,7 @@ module _ (c : Config) (x : Entry) (m : Master) (f : ℕ) (ps : List (List ℕ)) 
       go false b true u v d = let z : _≡_ {A = ℕ} 0 1 = cc in absurd (omega arith)
       go false b false u v d = let z : _≡_ {A = ℕ} 0 1 = cc in absurd (omega arith)
 
-  pub asked : (e : Event) → x .event ≡ e → shownBy c e (x .result .reply) ≡ told m f true ps → Acknowledging x m
+  pub asked : (e : Event) → x .event ≡ e → shownBy c e (x .result .reply) ≡ told m f true zs ps → Acknowledging x m
   unfolding shownBy
   asked (stretch room s) e d = asked-for room s (heardOf s) e refl d
   asked (elapsed ms) e d = let z : _≡_ {A = ℕ} 0 1 = cc in absurd (omega arith)

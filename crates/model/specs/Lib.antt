@@ -17,6 +17,7 @@ pub mod Fits
 pub mod Step
 pub mod Port
 pub mod Run
+pub mod Laws
 pub mod Bench
 pub mod Formed
 pub mod Refusal
