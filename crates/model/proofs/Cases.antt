@@ -57,7 +57,7 @@ use Rattle.model.specs.State.{
 use Rattle.model.specs.Scan.{counts, withNoData}
 use Rattle.model.specs.Inputs.{unreserved, chosen, wordOf, inputsOf, hasAccumulator, pulsesOf}
 use Rattle.model.specs.Control.{isOf, takes, selectWhen, operateWhen, selectOf, controlOf, operates, breaks, heldAfter}
-use Rattle.model.specs.Blocks.{notExecuted, executeWhen, executeOf, dropped, waitsAfter}
+use Rattle.model.specs.Blocks.{known, baseOf, blockOf, reaches, waitsFor, writeWhen, writeOf, notExecuted, executes, executeWhen, executeOf, dropped, waitsAfter}
 use Rattle.model.specs.Clock.{bcd, fromBcd, digits, clockFits, timeIn, digitsFit, setTimeOf, timeOf, clockAt, clockAfter}
 use Rattle.model.specs.History.{
   acknowledges,
@@ -94,6 +94,7 @@ use Rattle.model.specs.Step.{
   store,
   controlled,
   timed,
+  written,
   executed,
   scanned,
   internalOf,
@@ -152,17 +153,32 @@ scan = asks 0x00 0x41 []
 unfoldable pub damage : Event
 damage = stretch 520 (0xD2 ∷ 0x0C ∷ 0x00 ∷ 0x41 ∷ 0x00 ∷ 0x00 ∷ 0x53 ∷ 0x67 ∷ [])
 
-unfoldable pub times : ℕ → Event → List Event
-times zero e = []
-times (suc n) e = e ∷ times n e
+-- 20h/30h for ordinal 03 from its start on
+unfoldable pub writes : Event
+writes = asks 0x20 0x30 (0 ∷ 0 ∷ 3 ∷ [])
 
-unfoldable pub record16 : Event
-record16 = store (record { 0 = 0 }) 7 (replicate 16 258)
+-- a record of 16 values 0102h in file 0, of event type n; as many of them, types ascending
+unfoldable pub record16 : ℕ → Event
+record16 n = store (record { 0 = 0 }) n (replicate 16 258)
+
+unfoldable pub records16 : ℕ → ℕ → List Event
+records16 from zero = []
+records16 from (suc n) = record16 from ∷ records16 (suc from) n
 
 unfoldable pub setDay : ℕ → ℕ → Event
 setDay hundreds rest = asks 0x20 0x38 (hundreds ∷ rest ∷ 0x23 ∷ 0x59 ∷ 0x59 ∷ 0x03 ∷ 0xE7 ∷ [])
 
 -- ---- what they show
+
+-- the characters of such a record, stored on day 1 at 00:00:00
+unfoldable pub chars16 : ℕ → List ℕ
+chars16 n = n ∷ 0 ∷ 1 ∷ 0 ∷ 0 ∷ 0 ∷ gather (λ k. 2 ∷ 1 ∷ []) (upFrom 0 16)
+
+-- the fields of the clock after events
+unfoldable pub clockOf : List Event → List ℕ
+clockOf es =
+    let k = after benchConfig es .inner .core .clock in
+    k .day ∷ k .hour ∷ k .minute ∷ k .second ∷ k .ms ∷ []
 
 unfoldable pub acted : Action → List ℕ
 acted Rest = []
@@ -194,13 +210,13 @@ table =
       made = getD (replyOf benchConfig [] scan) 4 0 ∷ getD (replyOf benchConfig (damage ∷ []) scan) 4 0 ∷ [];
       told = 0x54 ∷ 0x56 ∷ [];
     }
-    -- 20h/31h with 128 characters is a frame, which no write waits for; with 129 it is none
+    -- after a WRITE, 20h/31h with 128 characters is done; with 129 it is no frame
     ∷ record {
       number = 6;
       made =
-          length (frame 0x20 0x31 (replicate 128 0)) ∷ (outcomeOf benchConfig [] (asks 0x20 0x31 (replicate 128 0))
-          ++ (length (frame 0x20 0x31 (replicate 129 0)) ∷ outcomeOf benchConfig [] (asks 0x20 0x31 (replicate 129 0))));
-      told = 136 ∷ 14 ∷ 137 ∷ 1 ∷ [];
+          length (frame 0x20 0x31 (replicate 128 7)) ∷ (outcomeOf benchConfig (writes ∷ []) (asks 0x20 0x31 (replicate 128 7))
+          ++ (length (frame 0x20 0x31 (replicate 129 7)) ∷ outcomeOf benchConfig (writes ∷ []) (asks 0x20 0x31 (replicate 129 7))));
+      told = 136 ∷ 0 ∷ 137 ∷ 1 ∷ [];
     }
     ∷ record {
       number = 7;
@@ -216,25 +232,34 @@ table =
           ∷ [];
       told = 65535 ∷ 0 ∷ [];
     }
-    -- 1 + 13 * 38 characters of data, the first of them 13 with bit 7
+    -- of 32 held the 13 oldest are sent: 13 with bit 7, then their characters
     ∷ record {
       number = 10;
       made =
-          length (heldIn (after (wider 16) (times 32 record16) .inner .history .files) 0)
-          ∷ wordAt (replyOf (wider 16) (times 32 record16) (asks 0x04 0x60 [])) 5
-          ∷ getD (replyOf (wider 16) (times 32 record16) (asks 0x04 0x60 [])) 7 0
-          ∷ [];
-      told = 32 ∷ 495 ∷ 0x8D ∷ [];
+          length (heldIn (after (wider 16) (records16 0 32) .inner .history .files) 0)
+          ∷ wordAt (replyOf (wider 16) (records16 0 32) (asks 0x04 0x60 [])) 5
+          ∷ part (replyOf (wider 16) (records16 0 32) (asks 0x04 0x60 [])) 7 495;
+      told = 32 ∷ 495 ∷ 0x8D ∷ gather chars16 (upFrom 0 13);
     }
-    ∷ record { number = 11; made = outcomeOf benchConfig [] (setDay 3 0x66) ++ outcomeOf benchConfig [] (setDay 3 0x67); told = 0 ∷ 8 ∷ [] }
+    ∷ record {
+      number = 11;
+      made =
+          outcomeOf benchConfig [] (setDay 3 0x66) ++ (clockOf (setDay 3 0x66 ∷ []) ++ (outcomeOf benchConfig [] (setDay 3 0x67)
+          ++ clockOf (setDay 3 0x67 ∷ [])));
+      told = 0 ∷ 366 ∷ 23 ∷ 59 ∷ 59 ∷ 999 ∷ 8 ∷ 1 ∷ 0 ∷ 0 ∷ 0 ∷ 0 ∷ [];
+    }
     ∷ record {
       number = 12;
       made =
-          outcomeOf (wider 16) (times 31 record16) record16 ++ (outcomeOf (wider 16) (times 32 record16) record16
-          ++ (length (heldIn (after (wider 16) (times 33 record16) .inner .history .files) 0) ∷ []));
+          outcomeOf (wider 16) (records16 0 31) (record16 31) ++ (outcomeOf (wider 16) (records16 0 32) (record16 32)
+          ++ (length (heldIn (after (wider 16) (records16 0 33) .inner .history .files) 0) ∷ []));
       told = 0 ∷ 1 ∷ 32 ∷ [];
     }
     ∷ []
+
+unfoldable pub numbers : List Case → List ℕ
+numbers [] = []
+numbers (x ∷ xs) = x .number ∷ numbers xs
 
 unfoldable pub eachMade : List Case → List (List ℕ)
 eachMade [] = []
@@ -244,20 +269,25 @@ unfoldable pub eachTold : List Case → List (List ℕ)
 eachTold [] = []
 eachTold (x ∷ xs) = x .told ∷ eachTold xs
 
-pub cases : eachMade table ≡ eachTold table
+-- the cases are 1 to 12, and the definitions make of each what it tells
+pub record AllCases (xs : List Case) : Type 0 where
+  pub numbered : numbers xs ≡ 1 ∷ 2 ∷ 3 ∷ 4 ∷ 5 ∷ 6 ∷ 7 ∷ 8 ∷ 9 ∷ 10 ∷ 11 ∷ 12 ∷ []
+  pub met : eachMade xs ≡ eachTold xs
+
+pub cases : AllCases table
 unfolding
-    table checkCase eachMade eachTold wider asks scan damage times record16 setDay acted outcomeOf replyOf frame benchConfig
+    table checkCase numbers eachMade eachTold wider asks scan damage writes record16 records16 chars16 setDay acted outcomeOf replyOf clockOf frame benchConfig
     put part word value wordAt gather upFrom bitStep bitSteps charStep checkFrom
     unitOf masterOf whole checked frameIn heardOf requestIn withCheck frameChars headChars replyChars
     damaged replyFunction has within twoBit simple accumulator analog every noneIn fileValid validOf hasFile hasCalculation sizeOf
     heldIn storeIn releaseIn freshCore freshAreas freshHistory freshPort freshOf counts withNoData
     unreserved chosen wordOf inputsOf hasAccumulator pulsesOf
     isOf takes selectWhen operateWhen selectOf controlOf operates breaks heldAfter
-    notExecuted executeWhen executeOf dropped waitsAfter
+    known baseOf blockOf reaches waitsFor writeWhen writeOf notExecuted executes executeWhen executeOf dropped waitsAfter
     bcd fromBcd digits clockFits timeIn digitsFit setTimeOf timeOf clockAt clockAfter
     acknowledges dumps fileOf flat historyChars releaseFor mostOf toldFrom historyOf recordChars storedAs
     masterFits holdFits writeFits coreFits givable replyFits memoryFits fileFits historyFits areasFit portFits fits
-    controlled timed executed scanned internalOf otherOf statusOf sentAs answered quiet settled finished beside historyMade initialises
+    controlled timed written executed scanned internalOf otherOf statusOf sentAs answered quiet settled finished beside historyMade initialises
     served framed judged coreAfter elapsedMade localMade wordMade storeMade makeOf
     portStatus sentChars damageMark markAfter silentAfter portAfter short turnedAway shows moves resultOf nextOf afterFrom
-cases = refl
+cases = record { numbered = refl; met = refl }
