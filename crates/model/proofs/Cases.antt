@@ -28,10 +28,7 @@ use Rattle.model.specs.Config.{
   Config,
   has,
   within,
-  twoBit,
-  simple,
   accumulator,
-  analog,
   every,
   noneIn,
   fileValid,
@@ -279,7 +276,7 @@ unfolding
     table checkCase numbers eachMade eachTold wider asks scan damage writes record16 records16 chars16 setDay acted outcomeOf replyOf clockOf frame benchConfig
     put part word value wordAt gather upFrom bitStep bitSteps charStep checkFrom
     unitOf masterOf whole checked frameIn heardOf requestIn withCheck frameChars headChars replyChars
-    damaged replyFunction has within twoBit simple accumulator analog every noneIn fileValid validOf hasFile hasCalculation sizeOf
+    damaged replyFunction has within accumulator every noneIn fileValid validOf hasFile hasCalculation sizeOf
     heldIn storeIn releaseIn freshCore freshAreas freshHistory freshPort freshOf counts withNoData
     unreserved chosen wordOf inputsOf hasAccumulator pulsesOf
     isOf takes selectWhen operateWhen selectOf controlOf operates breaks heldAfter

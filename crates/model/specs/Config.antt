@@ -6,7 +6,7 @@ use lib.ListN.{getD}
 use lib.Dec.{eqb, leb, ltb}
 use Rattle.chars.specs.Put.{part}
 use Rattle.chars.specs.Gather.{upFrom}
-use Rattle.model.specs.Limits.{recordSize}
+use Rattle.model.specs.Limits.{mostValues, recordSize}
 
 -- unit address; the equipped inputs, outputs and calculations, each a table of 256 in which 0 is not equipped; the 32 files
 -- likewise, with how many values a record of each has; the length of the parameter block
@@ -26,18 +26,21 @@ has table n = not (eqb (getD table n 0) 0)
 unfoldable pub within : ℕ → ℕ → ℕ → Bool
 within low high n = leb low n && leb n high
 
--- the kinds of inputs by their numbers (Scans 1; paper 2.1)
-unfoldable pub twoBit : ℕ → Bool
-twoBit n = within 0x00 0x1F n
+-- the kinds of inputs by their numbers: two-bit and simple status, accumulators, analogs (Scans 1; paper 2.1)
+abbrev pub twoBits : List ℕ
+twoBits = upFrom 0x00 32
 
-unfoldable pub simple : ℕ → Bool
-simple n = within 0x30 0x3F n
+abbrev pub simples : List ℕ
+simples = upFrom 0x30 16
+
+abbrev pub accumulators : List ℕ
+accumulators = upFrom 0x40 32
+
+abbrev pub analogs : List ℕ
+analogs = upFrom 0x80 128
 
 unfoldable pub accumulator : ℕ → Bool
 accumulator n = within 0x40 0x5F n
-
-unfoldable pub analog : ℕ → Bool
-analog n = within 0x80 0xFF n
 
 -- every number of a list passes
 unfoldable pub every : (ℕ → Bool) → List ℕ → Bool
@@ -50,7 +53,7 @@ noneIn table low n = every (λ x. eqb x 0) (part table low n)
 
 -- an equipped file has 1 to 16 values (Outcomes 6)
 unfoldable pub fileValid : Config → ℕ → Bool
-fileValid c f = not (has (c .files) f) || within 1 16 (getD (c .values) f 0)
+fileValid c f = not (has (c .files) f) || within 1 mostValues (getD (c .values) f 0)
 
 -- the cases of an invalid configuration (Outcomes 6)
 unfoldable pub validOf : Config → Bool

@@ -5,9 +5,9 @@ use mathlib.Core.Bool.{Bool, true, false, cond, not, _&&_, _||_}
 use lib.ListN.{getD, set}
 use lib.Dec.{eqb}
 use Rattle.chars.specs.Word.{word}
-use Rattle.chars.specs.Gather.{gather, upFrom}
+use Rattle.chars.specs.Gather.{gather}
 use Rattle.model.specs.Frame.{Request}
-use Rattle.model.specs.Config.{has, accumulator}
+use Rattle.model.specs.Config.{has, twoBits, simples, accumulators, analogs, accumulator}
 use Rattle.model.specs.Scan.{Scan, tells, refuses, withNoData, counts}
 use Rattle.model.specs.declared.Outcome.{Outcome}
 use Rattle.model.specs.declared.Outcome.the-variants.{Done, Unknown, WrongCount, NotValid}
@@ -19,8 +19,8 @@ unreserved c = eqb (c / 2 % 2) 0 && (eqb (c / 16 % 4) 0 && eqb (c / 128) 0)
 -- the numbers of the kinds that bits 2, 0, 6 and 3 choose, lowest first (Scans 5, 7; paper 3.2)
 unfoldable pub chosen : ℕ → List ℕ
 chosen c =
-    cond (eqb (c / 4 % 2) 1) (upFrom 0x00 32) [] ++ (cond (eqb (c % 2) 1) (upFrom 0x30 16) []
-    ++ (cond (eqb (c / 64 % 2) 1) (upFrom 0x40 32) [] ++ cond (eqb (c / 8 % 2) 1) (upFrom 0x80 128) []))
+    cond (eqb (c / 4 % 2) 1) twoBits [] ++ (cond (eqb (c % 2) 1) simples []
+    ++ (cond (eqb (c / 64 % 2) 1) accumulators [] ++ cond (eqb (c / 8 % 2) 1) analogs []))
 
 -- what a number gives: its word where it is equipped, else nothing (Scans 7)
 unfoldable pub wordOf : List ℕ → List ℕ → ℕ → List ℕ

@@ -1,5 +1,5 @@
 -- The figures that limit things, each once; Tied and src/lib.rt hold them to the constants of the thing they limit (Frames 19).
-use Prim.Native.Nat.{ℕ, _+_, _*_}
+use Prim.Native.Nat.{ℕ, _+_, _*_, _-_}
 
 -- a master's frame has 8 to 136 characters (Frames 2)
 abbrev pub shortestFrame : ℕ
@@ -8,11 +8,11 @@ shortestFrame = 8
 abbrev pub longestFrame : ℕ
 longestFrame = 136
 
--- a frame has at most 128 characters of data (Frames 1)
+-- a frame has at most 128 characters of data: the longest without the eight of the shortest (Frames 1)
 abbrev pub mostAsked : ℕ
-mostAsked = 128
+mostAsked = longestFrame - shortestFrame
 
--- a reply has a head of 7, up to 511 of data, and 9 to 520 characters (Frames 3, 4)
+-- a reply has a head of 7, up to 511 of data, two check characters, and so 9 to 520 (Frames 3, 4)
 abbrev pub replyHead : ℕ
 replyHead = 7
 
@@ -20,7 +20,7 @@ abbrev pub mostData : ℕ
 mostData = 511
 
 abbrev pub longestReply : ℕ
-longestReply = 520
+longestReply = replyHead + mostData + 2
 
 -- a select and a write live for 5,000 ms (Select 4; Write 6)
 abbrev pub holdTime : ℕ
@@ -35,10 +35,13 @@ abbrev pub recordHead : ℕ
 recordHead = 6
 
 abbrev pub recordSize : ℕ → ℕ
-recordSize v = 6 + 2 * v
+recordSize v = recordHead + 2 * v
+
+abbrev pub mostValues : ℕ
+mostValues = 16
 
 abbrev pub longestRecord : ℕ
-longestRecord = 38
+longestRecord = recordSize mostValues
 
 abbrev pub fileRoom : ℕ
 fileRoom = 32
