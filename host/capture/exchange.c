@@ -1,4 +1,4 @@
-/* Runs a fixed exchange between masters and a unit of the library and prints it, one message a line, for tools/capture:
+/* Runs a fixed exchange between masters and a unit of the library and prints it, one message a line, for checks/capture:
  *   I <TAB> the equipped input numbers      C <TAB> the equipped calculation numbers      F <TAB> a file <TAB> its values
  *   W <TAB> what the next messages show     T <TAB> milliseconds that passed
  *   M <TAB> a master's stretch <TAB> its outcome      U <TAB> the unit's reply */

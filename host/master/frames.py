@@ -1,4 +1,4 @@
-"""A master's frames and their check characters, worked apart from the library: what the tools and tests in Python share."""
+"""A master's frames and their check characters, worked apart from the library: what tools, checks and tests in Python share."""
 
 
 def check(chars):

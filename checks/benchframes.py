@@ -1,4 +1,8 @@
-"""Lines for the bench program: what tools/bench-stdin and tools/bench-lines share."""
+"""Lines for the bench program: what checks/bench-stdin and checks/bench-lines share."""
+import os
+import sys
+
+sys.path.insert(0, os.path.join(os.path.dirname(os.path.dirname(os.path.abspath(__file__))), 'host', 'master'))
 import frames
 
 UNIT, ALL = 1234, 0x7FF
