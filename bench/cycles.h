@@ -42,17 +42,17 @@ static inline void least_of(uint64_t *least, uint64_t cycles)
 
 // A line with a call's name and its cycles, less those of measuring nothing. `prepare` comes before each call and is not counted; the
 // first repetitions warm up what the least of them finds warm.
-#define TELL_CYCLES(name, prepare, call)                                      \
-    do {                                                                      \
-        uint64_t least = UINT64_MAX, nothing = UINT64_MAX, from;              \
-        for (int repetition = 0; repetition < REPETITIONS; repetition++) {    \
-            prepare;                                                          \
-            from = cycles_from();                                             \
-            least_of(&nothing, cycles_to() - from);                           \
-            from = cycles_from();                                             \
-            call;                                                             \
-            least_of(&least, cycles_to() - from);                             \
-        }                                                                     \
+#define TELL_CYCLES(name, prepare, call)                                         \
+    do {                                                                         \
+        uint64_t least = UINT64_MAX, nothing = UINT64_MAX, from;                 \
+        for (int repetition = 0; repetition < REPETITIONS; repetition++) {       \
+            prepare;                                                             \
+            from = cycles_from();                                                \
+            least_of(&nothing, cycles_to() - from);                              \
+            from = cycles_from();                                                \
+            call;                                                                \
+            least_of(&least, cycles_to() - from);                                \
+        }                                                                        \
         printf("%s %" PRIu64 "\n", name, least > nothing ? least - nothing : 0); \
     } while (0)
 

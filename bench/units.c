@@ -11,7 +11,7 @@
 
 static struct osturdam_turned hear(struct units *u, const uint8_t *s, size_t n, uint8_t *buffer)
 {
-    struct osturdam_heard heard = { .chars = s, .count = n, .buffer = buffer, .room = OSTURDAM_REPLY };
+    struct osturdam_heard heard = {.chars = s, .count = n, .buffer = buffer, .room = OSTURDAM_REPLY};
     struct osturdam_turned turned;
     osturdam_hear(&u->lent, &heard, &turned);
     return turned;
@@ -132,7 +132,7 @@ void fresh(struct units *u)
 
 size_t frame(uint8_t *to, unsigned master, unsigned unit, unsigned function, unsigned command, const void *data, size_t count)
 {
-    const uint8_t head[6] = { unit, unit >> 8 | master << 3, function, command, count, count >> 8 };
+    const uint8_t head[6] = {unit, unit >> 8 | master << 3, function, command, count, count >> 8};
     memcpy(to, head, 6);
     memcpy(to + 6, data, count);
     uint16_t check = 0;
@@ -186,20 +186,19 @@ uint8_t store_record(struct units *u, uint8_t file, uint8_t event, const uint16_
 
 uint8_t elapsed(struct units *u, uint32_t ms)
 {
-    return agreed("elapsed", osturdam_wait(&u->lent, ms), plain_elapsed(&u->plain_config, &u->plain, ms),
-                  rust_elapsed(u->rust, ms));
+    return agreed("elapsed", osturdam_wait(&u->lent, ms), plain_elapsed(&u->plain_config, &u->plain, ms), rust_elapsed(u->rust, ms));
 }
 
 uint8_t set_word(struct units *u, uint8_t input, uint16_t word)
 {
-    return agreed("word", osturdam_take_word(&u->lent, input, word),
-                  plain_set_word(&u->plain_config, &u->plain, input, word), rust_set_word(u->rust, input, word));
+    return agreed("word", osturdam_take_word(&u->lent, input, word), plain_set_word(&u->plain_config, &u->plain, input, word),
+                  rust_set_word(u->rust, input, word));
 }
 
 uint8_t pulses(struct units *u, uint8_t input, uint16_t count)
 {
-    return agreed("pulses", osturdam_take_pulses(&u->lent, input, count),
-                  plain_pulses(&u->plain_config, &u->plain, input, count), rust_pulses(u->rust, input, count));
+    return agreed("pulses", osturdam_take_pulses(&u->lent, input, count), plain_pulses(&u->plain_config, &u->plain, input, count),
+                  rust_pulses(u->rust, input, count));
 }
 
 uint8_t set_value(struct units *u, uint8_t calculation, uint32_t value)

@@ -3,7 +3,7 @@ import os
 import sys
 
 sys.path.insert(0, os.path.join(os.path.dirname(os.path.dirname(os.path.abspath(__file__))), 'host', 'master'))
-import frames
+import frames  # noqa: E402
 
 UNIT, ALL = 1234, 0x7FF
 

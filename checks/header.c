@@ -54,7 +54,7 @@ static void begin(void)
 
 static struct osturdam_turned heard(const uint8_t *chars, size_t count, size_t room)
 {
-    struct osturdam_heard stretch = { .chars = chars, .count = count, .buffer = buffer, .room = room };
+    struct osturdam_heard stretch = {.chars = chars, .count = count, .buffer = buffer, .room = room};
     struct osturdam_turned turned;
     enum osturdam_outcome outcome = osturdam_hear(&lent, &stretch, &turned);
     expect("the outcome told", outcome, turned.outcome);
@@ -137,13 +137,13 @@ static void selects_and_writes(void)
 /* A character written through the line into the last place of each ordinal's block is found there. */
 static void blocks(void)
 {
-    static const uint8_t ordinals[] = { OSTURDAM_ORDINAL_00, OSTURDAM_ORDINAL_03, OSTURDAM_ORDINAL_0B, OSTURDAM_ORDINAL_06 };
+    static const uint8_t ordinals[] = {OSTURDAM_ORDINAL_00, OSTURDAM_ORDINAL_03, OSTURDAM_ORDINAL_0B, OSTURDAM_ORDINAL_06};
     begin();
     for (size_t i = 0; i < sizeof ordinals; i++) {
         uint8_t ordinal = ordinals[i];
         uint16_t length = ordinal == OSTURDAM_ORDINAL_06 ? (uint16_t)OSTURDAM_BLOCK : osturdam_fixed_length(ordinal);
         const uint8_t *block = ordinal == OSTURDAM_ORDINAL_06 ? all.block : all.unit.fixed + osturdam_fixed_place(ordinal);
-        char where[3] = { (char)((length - 1) & 0xFF), (char)((length - 1) >> 8), (char)ordinal };
+        char where[3] = {(char)((length - 1) & 0xFF), (char)((length - 1) >> 8), (char)ordinal};
         EXPECT(OSTURDAM_WRITE_TAKEN, ask(ONE, 0x20, 0x30, where, 3));
         EXPECT(OSTURDAM_DONE, ask(ONE, 0x20, 0x31, "x", 1));
         expect("the last character of a block", 'x', block[length - 1]);
@@ -155,7 +155,7 @@ static void blocks(void)
 
 static int stored(uint8_t file, size_t many)
 {
-    static const uint16_t values[OSTURDAM_VALUES + 1] = { 0x1234 };
+    static const uint16_t values[OSTURDAM_VALUES + 1] = {0x1234};
     return osturdam_take_record(&lent, file, 7, values, many);
 }
 
@@ -200,7 +200,7 @@ static void points(void)
 
 static void clock_and_port(void)
 {
-    static const uint8_t damaged[] = { 1, 2, 3 };
+    static const uint8_t damaged[] = {1, 2, 3};
     begin();
     expect("the configure bit", 1, kept(OSTURDAM_STATUS_CONFIGURE));
     EXPECT(OSTURDAM_DONE, osturdam_wait(&lent, 2 * 86400000 + 3 * 3600000 + 4 * 60000 + 5 * 1000 + 6));

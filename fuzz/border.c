@@ -13,9 +13,9 @@ enum to { OWN, ALL, ANOTHER };
 
 /* Functions with the commands that they have; below the high nibble of a file's or table's command any file or table. */
 static const uint8_t commands[][2] = {
-    { 0x00, 0x41 }, { 0x00, 0x4D }, { 0x03, 0x00 }, { 0x03, 0x80 }, { 0x04, 0x00 }, { 0x04, 0x20 }, { 0x04, 0x40 }, { 0x04, 0x60 },
-    { 0x0A, 0x40 }, { 0x10, 0x10 }, { 0x10, 0x11 }, { 0x10, 0x20 }, { 0x10, 0x21 }, { 0x20, 0x00 }, { 0x20, 0x11 }, { 0x20, 0x30 },
-    { 0x20, 0x31 }, { 0x20, 0x38 }, { 0x28, 0x30 }, { 0x28, 0x31 },
+    {0x00, 0x41}, {0x00, 0x4D}, {0x03, 0x00}, {0x03, 0x80}, {0x04, 0x00}, {0x04, 0x20}, {0x04, 0x40},
+    {0x04, 0x60}, {0x0A, 0x40}, {0x10, 0x10}, {0x10, 0x11}, {0x10, 0x20}, {0x10, 0x21}, {0x20, 0x00},
+    {0x20, 0x11}, {0x20, 0x30}, {0x20, 0x31}, {0x20, 0x38}, {0x28, 0x30}, {0x28, 0x31},
 };
 enum { COMMANDS = sizeof commands / sizeof commands[0] };
 
@@ -154,11 +154,16 @@ static void read_change(void)
         enum part part;
         size_t from, length; /* a length of 0: the whole part */
     } of[] = {
-        { UNIT, OSTURDAM_AT_INPUTS, OSTURDAM_INPUTS },      { UNIT, OSTURDAM_AT_CALCULATIONS, OSTURDAM_INPUTS },
-        { UNIT, OSTURDAM_AT_FILES, OSTURDAM_FILES },        { UNIT, OSTURDAM_AT_VALUES, OSTURDAM_FILES },
-        { UNIT, OSTURDAM_AT_COUNTS, OSTURDAM_FILES },       { UNIT, OSTURDAM_AT_FIXED, OSTURDAM_FIXED },
-        { RECORDS, 0, 0 },                                  { BLOCK, 0, 0 },
-        { UNIT, 0, 0 },                                     { UNIT, OSTURDAM_AT_LAYOUT, OSTURDAM_AT_NUMBER - OSTURDAM_AT_LAYOUT },
+        {UNIT, OSTURDAM_AT_INPUTS, OSTURDAM_INPUTS},
+        {UNIT, OSTURDAM_AT_CALCULATIONS, OSTURDAM_INPUTS},
+        {UNIT, OSTURDAM_AT_FILES, OSTURDAM_FILES},
+        {UNIT, OSTURDAM_AT_VALUES, OSTURDAM_FILES},
+        {UNIT, OSTURDAM_AT_COUNTS, OSTURDAM_FILES},
+        {UNIT, OSTURDAM_AT_FIXED, OSTURDAM_FIXED},
+        {RECORDS, 0, 0},
+        {BLOCK, 0, 0},
+        {UNIT, 0, 0},
+        {UNIT, OSTURDAM_AT_LAYOUT, OSTURDAM_AT_NUMBER - OSTURDAM_AT_LAYOUT},
     };
     size_t which = next(1) % (sizeof of / sizeof of[0]);
     enum part part = of[which].part;
@@ -178,7 +183,7 @@ static void read_number(void)
 /* Another room, or another length of what is lent as the parameter block or for records. */
 static void read_lengths(void)
 {
-    static const enum part of[] = { BLOCK, BUFFER, RECORDS, BUFFER };
+    static const enum part of[] = {BLOCK, BUFFER, RECORDS, BUFFER};
     enum part part = of[next(1) % (sizeof of / sizeof of[0])];
     lent_place(part, next(2) % (lent_most(part) + 1));
     fill(part, 0);
@@ -205,7 +210,7 @@ static bool read_event(struct call *c)
 
 int LLVMFuzzerTestOneInput(const uint8_t *data, size_t size)
 {
-    struct call c = { BEGIN, false, 0, 0, 0 };
+    struct call c = {BEGIN, false, 0, 0, 0};
     if (lent[UNIT].at == NULL)
         lent_begin();
     input = data;

@@ -16,26 +16,26 @@ static const struct {
     const char *name;
     size_t from, to;
 } regions[REGIONS] = {
-    [LAYOUT] = { "number of the layout", OSTURDAM_AT_LAYOUT, OSTURDAM_AT_NUMBER },
-    [CONFIGURATION] = { "configuration in the unit", OSTURDAM_AT_NUMBER, OSTURDAM_AT_NUMBERS },
-    [NUMBERS] = { "kept numbers", OSTURDAM_AT_NUMBERS, OSTURDAM_AT_WORDS },
-    [WORDS] = { "words", OSTURDAM_AT_WORDS, OSTURDAM_AT_RESULTS },
-    [RESULTS] = { "results", OSTURDAM_AT_RESULTS, OSTURDAM_AT_FIXED },
-    [FIXED] = { "fixed", OSTURDAM_AT_FIXED, OSTURDAM_AT_COUNTS },
-    [COUNTS] = { "counts", OSTURDAM_AT_COUNTS, OSTURDAM_UNIT },
+    [LAYOUT] = {"number of the layout", OSTURDAM_AT_LAYOUT, OSTURDAM_AT_NUMBER},
+    [CONFIGURATION] = {"configuration in the unit", OSTURDAM_AT_NUMBER, OSTURDAM_AT_NUMBERS},
+    [NUMBERS] = {"kept numbers", OSTURDAM_AT_NUMBERS, OSTURDAM_AT_WORDS},
+    [WORDS] = {"words", OSTURDAM_AT_WORDS, OSTURDAM_AT_RESULTS},
+    [RESULTS] = {"results", OSTURDAM_AT_RESULTS, OSTURDAM_AT_FIXED},
+    [FIXED] = {"fixed", OSTURDAM_AT_FIXED, OSTURDAM_AT_COUNTS},
+    [COUNTS] = {"counts", OSTURDAM_AT_COUNTS, OSTURDAM_UNIT},
 };
 
 /* What each kind of event may change, as bits of parts and of regions. */
 static const struct {
     unsigned parts, regions;
 } changes[] = {
-    [BEGIN] = { 1u << BLOCK, (1u << REGIONS) - 1 },
-    [HEAR] = { 1u << BLOCK | 1u << RECORDS | 1u << BUFFER, 1u << NUMBERS | 1u << WORDS | 1u << FIXED | 1u << COUNTS },
-    [ELAPSE] = { 0, 1u << NUMBERS },
-    [SET_WORD] = { 0, 1u << WORDS },
-    [PULSE] = { 0, 1u << WORDS },
-    [SET_VALUE] = { 0, 1u << RESULTS },
-    [STORE] = { 1u << RECORDS, 1u << NUMBERS | 1u << COUNTS },
+    [BEGIN] = {1u << BLOCK, (1u << REGIONS) - 1},
+    [HEAR] = {1u << BLOCK | 1u << RECORDS | 1u << BUFFER, 1u << NUMBERS | 1u << WORDS | 1u << FIXED | 1u << COUNTS},
+    [ELAPSE] = {0, 1u << NUMBERS},
+    [SET_WORD] = {0, 1u << WORDS},
+    [PULSE] = {0, 1u << WORDS},
+    [SET_VALUE] = {0, 1u << RESULTS},
+    [STORE] = {1u << RECORDS, 1u << NUMBERS | 1u << COUNTS},
 };
 
 static struct picture *before, *after;
@@ -82,7 +82,7 @@ struct answer {
 static struct answer heard(const struct call *c)
 {
     const uint8_t *turned = lent[TURNED].at;
-    struct answer a = { 0, 0, 0, 0 };
+    struct answer a = {0, 0, 0, 0};
     a.outcome = osturdam_stretch(LENT, place(c, BUFFER), lent[BUFFER].length, place(c, STRETCH), lent[STRETCH].length, lent[TURNED].at);
     a.sent = osturdam_word_at(turned);
     a.action = turned[2];
@@ -105,7 +105,7 @@ static uint8_t local(const struct call *c)
 
 static struct answer made(const struct call *c)
 {
-    struct answer a = { 0, 0, 0, 0 };
+    struct answer a = {0, 0, 0, 0};
     if (c->kind == HEAR)
         return heard(c);
     a.outcome = local(c);
@@ -167,14 +167,15 @@ static void check_fresh(const struct call *c)
         hold(osturdam_kept_of(&u, (enum osturdam_kept)which) == wanted, c, "left in the fresh", "numbers");
     }
     bool valid = judge(&u, osturdam_length_of(&u.config), OSTURDAM_RECORDS);
-    hold(osturdam_valid(lent[CONFIG].at) == (valid ? 1 : 0), c, valid ? "a configuration in range is not valid" : "one out of range is valid", "");
+    hold(osturdam_valid(lent[CONFIG].at) == (valid ? 1 : 0), c,
+         valid ? "a configuration in range is not valid" : "one out of range is valid", "");
 }
 
 static void check_reply(const struct call *c, const struct answer *t)
 {
-    static const unsigned unanswered = 1u << OSTURDAM_NOT_WHOLE | 1u << OSTURDAM_CHECK_WRONG | 1u << OSTURDAM_OTHER_UNIT
-        | 1u << OSTURDAM_BROADCAST_DONE | 1u << OSTURDAM_WRITE_TAKEN | 1u << OSTURDAM_BROADCAST_REFUSED | 1u << OSTURDAM_NOT_CONFIGURED
-        | 1u << OSTURDAM_BUFFER_SHORT;
+    static const unsigned unanswered = 1u << OSTURDAM_NOT_WHOLE | 1u << OSTURDAM_CHECK_WRONG | 1u << OSTURDAM_OTHER_UNIT |
+                                       1u << OSTURDAM_BROADCAST_DONE | 1u << OSTURDAM_WRITE_TAKEN | 1u << OSTURDAM_BROADCAST_REFUSED |
+                                       1u << OSTURDAM_NOT_CONFIGURED | 1u << OSTURDAM_BUFFER_SHORT;
     size_t room = lent[BUFFER].length, sent = t->sent;
     hold(t->outcome <= OSTURDAM_BUFFER_SHORT, c, "no such outcome", "");
     hold((t->outcome == OSTURDAM_BUFFER_SHORT) == (room < OSTURDAM_REPLY), c, "18 is not for short buffers alone", "");

@@ -12,10 +12,10 @@ enum { CALL_TURNED = 4 }; /* characters in which a stretch is answered */
 
 struct call {
     enum kind kind;
-    bool nulls;      /* parts of no length are lent as null */
-    uint8_t number;  /* of an input, calculation or file */
+    bool nulls;     /* parts of no length are lent as null */
+    uint8_t number; /* of an input, calculation or file */
     uint8_t event;
-    uint32_t value;  /* milliseconds, word, count or value */
+    uint32_t value; /* milliseconds, word, count or value */
 };
 
 /* Calls twice from the same memory and checks; what fails is printed and ends the program. */

@@ -57,7 +57,7 @@ static void left_behind(int signal_number)
 
 static void catch_signals(void)
 {
-    static const int caught[] = { SIGABRT, SIGSEGV, SIGBUS, SIGILL, SIGFPE, SIGTRAP };
+    static const int caught[] = {SIGABRT, SIGSEGV, SIGBUS, SIGILL, SIGFPE, SIGTRAP};
     for (size_t i = 0; i < sizeof caught / sizeof caught[0]; i++)
         signal(caught[i], left_behind);
 }

@@ -10,20 +10,28 @@
 #include <sys/mman.h>
 #include <unistd.h>
 
-enum { PAINT = 0xA5, PAINTED = 64, MOST_BLOCK = 600, MOST_RECORDS = OSTURDAM_RECORDS + 100, MOST_BUFFER = 1100, MOST_STRETCH = 700, MOST_GIVEN = 80 };
+enum {
+    PAINT = 0xA5,
+    PAINTED = 64,
+    MOST_BLOCK = 600,
+    MOST_RECORDS = OSTURDAM_RECORDS + 100,
+    MOST_BUFFER = 1100,
+    MOST_STRETCH = 700,
+    MOST_GIVEN = 80
+};
 
 static const struct {
     const char *name;
     size_t most;
 } known[PARTS] = {
-    [CONFIG] = { "configuration", OSTURDAM_CONFIG },
-    [UNIT] = { "unit", OSTURDAM_UNIT },
-    [BLOCK] = { "block", MOST_BLOCK },
-    [RECORDS] = { "records", MOST_RECORDS },
-    [BUFFER] = { "buffer", MOST_BUFFER },
-    [STRETCH] = { "stretch", MOST_STRETCH },
-    [GIVEN] = { "given", MOST_GIVEN },
-    [TURNED] = { "turned", CALL_TURNED },
+    [CONFIG] = {"configuration", OSTURDAM_CONFIG},
+    [UNIT] = {"unit", OSTURDAM_UNIT},
+    [BLOCK] = {"block", MOST_BLOCK},
+    [RECORDS] = {"records", MOST_RECORDS},
+    [BUFFER] = {"buffer", MOST_BUFFER},
+    [STRETCH] = {"stretch", MOST_STRETCH},
+    [GIVEN] = {"given", MOST_GIVEN},
+    [TURNED] = {"turned", CALL_TURNED},
 };
 
 struct part_lent lent[PARTS];

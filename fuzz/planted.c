@@ -3,8 +3,8 @@
 
 #include <stdbool.h>
 
-#define PARAMETERS                                                                                                                    \
-    uint8_t *unit, uint8_t *block, uint64_t length, uint8_t *records, uint64_t room, uint8_t *buffer, uint64_t buffer_room,           \
+#define PARAMETERS                                                                                                          \
+    uint8_t *unit, uint8_t *block, uint64_t length, uint8_t *records, uint64_t room, uint8_t *buffer, uint64_t buffer_room, \
         const uint8_t *chars, uint64_t count, uint8_t *turned
 
 uint8_t __real_osturdam_stretch(PARAMETERS);
@@ -18,6 +18,7 @@ uint8_t __wrap_osturdam_stretch(PARAMETERS)
     bool answered = sent > 0, done = outcome == OSTURDAM_DONE, refused = outcome == OSTURDAM_NOT_CONFIGURED;
     bool other = osturdam_word_at(unit + OSTURDAM_AT_LAYOUT) != OSTURDAM_LAYOUT;
     calls++;
+    /* clang-format off */
     switch (PLANTED) {
     case 1: if (answered) buffer[buffer_room] = 0; break;                             /* written past the buffer */
     case 2: if (answered && sent < buffer_room) buffer[sent] ^= 1; break;             /* written behind the reply */
@@ -33,5 +34,6 @@ uint8_t __wrap_osturdam_stretch(PARAMETERS)
     case 12: if (refused && room < OSTURDAM_RECORDS) outcome = OSTURDAM_NOT_WHOLE; break; /* served with too few records */
     case 13: if (refused && other) outcome = OSTURDAM_NOT_WHOLE; break;               /* a memory of another layout is served */
     }
+    /* clang-format on */
     return outcome;
 }

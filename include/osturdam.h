@@ -40,6 +40,8 @@ extern "C" {
 
 /* ---- limits, lengths, and where a unit's parts lie in its memory */
 
+/* tables, with their own columns: clang-format leaves them as they are */
+/* clang-format off */
 /* from here on made by tools/places */
 enum {
     OSTURDAM_INPUTS = 256,          /* input, output and calculation numbers */
@@ -248,6 +250,7 @@ struct osturdam_turned {
     enum osturdam_action action;
     uint8_t output;                         /* the control output of the action */
 };
+/* clang-format on */
 
 /* ---- what the library exports; the calls further down are made of these */
 
@@ -484,9 +487,9 @@ static inline void osturdam_begin(const struct osturdam_lent *l, const struct os
 /* A stretch was heard. Of the buffer the reply alone is written. */
 static inline enum osturdam_outcome osturdam_hear(const struct osturdam_lent *l, const struct osturdam_heard *h, struct osturdam_turned *t)
 {
-    uint8_t told[4] = { 0, 0, 0, 0 };
-    uint8_t outcome = osturdam_stretch((uint8_t *)l->unit, l->block, l->length, l->records, l->room, h->buffer, h->room, h->chars, h->count,
-                                       told);
+    uint8_t told[4] = {0, 0, 0, 0};
+    uint8_t outcome =
+        osturdam_stretch((uint8_t *)l->unit, l->block, l->length, l->records, l->room, h->buffer, h->room, h->chars, h->count, told);
     t->outcome = (enum osturdam_outcome)outcome;
     t->sent = osturdam_word_at(told);
     t->action = (enum osturdam_action)told[2];

@@ -19,8 +19,8 @@ static unsigned below(unsigned n)
 
 enum kind { SCAN, TABLE, ALL_VALUES, SOME_VALUES, HISTORY, CONTROL, WRITE, EXECUTE, READ, CLOCK, OTHERS, ALL_UNITS, DAMAGED, KINDS };
 
-static const char *const names[KINDS] = { "00", "0Ah", "03/80h", "03/00", "04", "10h", "20h/30h", "20h/31h", "28h/30h", "time",
-                                          "another unit's", "broadcast", "damaged" };
+static const char *const names[KINDS] = {"00",      "0Ah",     "03/80h", "03/00",          "04",        "10h",    "20h/30h",
+                                         "20h/31h", "28h/30h", "time",   "another unit's", "broadcast", "damaged"};
 static size_t most[KINDS][3];
 
 static void range(void (*equip_one)(struct osturdam_config *, uint8_t), int from, int many)
@@ -71,7 +71,7 @@ static size_t ask(uint8_t *s, unsigned function, unsigned command, const void *d
 
 static size_t scan(uint8_t *s, enum kind k)
 {
-    static const uint8_t kinds[] = { 0x4D, 0x01, 0x0D, 0x08, 0x41, 0x02 };
+    static const uint8_t kinds[] = {0x4D, 0x01, 0x0D, 0x08, 0x41, 0x02};
     uint8_t some[8];
     for (int i = 0; i < 8; i++)
         some[i] = below(31);
@@ -86,7 +86,7 @@ static size_t scan(uint8_t *s, enum kind k)
 // A table area of three tables, in parts; other blocks too.
 static size_t execute(uint8_t *s)
 {
-    uint8_t data[128] = { 0x00, 16, [18] = 0x10, [19] = 8, [28] = 0x12, [29] = 20 };
+    uint8_t data[128] = {0x00, 16, [18] = 0x10, [19] = 8, [28] = 0x12, [29] = 20};
     for (int i = 0; i < 16; i++)
         data[2 + i] = 0x30 + i;
     for (int i = 0; i < 8; i++)
@@ -105,7 +105,7 @@ static size_t control(uint8_t *s)
 
 static size_t clock_or_start(uint8_t *s)
 {
-    const uint8_t time[7] = { below(4), 0x10 * below(10), 0x10 * below(3), 0x10 * below(7), 0x59, below(4), below(256) };
+    const uint8_t time[7] = {below(4), 0x10 * below(10), 0x10 * below(3), 0x10 * below(7), 0x59, below(4), below(256)};
     switch (below(8)) {
     case 0: return ask(s, 0x20, 0x38, time, 7);
     case 1: return ask(s, 0x20, 0x00, "", 0);
@@ -124,7 +124,7 @@ static size_t damaged(uint8_t *s)
 
 static size_t make(uint8_t *s, enum kind k)
 {
-    const uint8_t write[3] = { 0, 0, below(4) ? 3 : below(12) }, read[4] = { below(100), 0, 6, below(120) };
+    const uint8_t write[3] = {0, 0, below(4) ? 3 : below(12)}, read[4] = {below(100), 0, 6, below(120)};
     uint8_t accumulator = 0x40 + below(9);
     switch (k) {
     case HISTORY: return ask(s, 0x04, (below(4) ? 0x40 : 0) + (below(3) ? 0x20 : 0) + below(9), "", 0);
@@ -143,7 +143,7 @@ static size_t make(uint8_t *s, enum kind k)
 // Of a hundred stretches; a WRITE is mostly followed by its EXECUTE.
 static enum kind next(enum kind before)
 {
-    static const uint8_t of_hundred[KINDS] = { 25, 10, 6, 6, 14, 6, 4, 1, 5, 4, 8, 3, 8 };
+    static const uint8_t of_hundred[KINDS] = {25, 10, 6, 6, 14, 6, 4, 1, 5, 4, 8, 3, 8};
     if (before == WRITE && below(8))
         return EXECUTE;
     int at = below(100), k = 0;
@@ -153,24 +153,24 @@ static enum kind next(enum kind before)
 }
 
 // How far below the caller the stack was written, by a pattern laid there before the call. No call but the one stands between.
-#define STACK(to, call)                                                                      \
-    do {                                                                                     \
-        volatile uint8_t *top;                                                               \
-        __asm__ volatile("mov %%rsp, %0" : "=r"(top));                                       \
-        for (size_t i = 1; i <= DEPTH; i++)                                                  \
-            top[-(ptrdiff_t)i] = 0xA5;                                                       \
-        call;                                                                                \
-        size_t depth = DEPTH;                                                                \
-        while (depth > 0 && top[-(ptrdiff_t)depth] == 0xA5)                                  \
-            depth--;                                                                         \
-        if (depth > (to))                                                                    \
-            (to) = depth;                                                                    \
+#define STACK(to, call)                                     \
+    do {                                                    \
+        volatile uint8_t *top;                              \
+        __asm__ volatile("mov %%rsp, %0" : "=r"(top));      \
+        for (size_t i = 1; i <= DEPTH; i++)                 \
+            top[-(ptrdiff_t)i] = 0xA5;                      \
+        call;                                               \
+        size_t depth = DEPTH;                               \
+        while (depth > 0 && top[-(ptrdiff_t)depth] == 0xA5) \
+            depth--;                                        \
+        if (depth > (to))                                   \
+            (to) = depth;                                   \
     } while (0)
 
 static __attribute__((noinline)) void measure(const uint8_t *s, size_t n, size_t deepest[3])
 {
     static uint8_t buffer[OSTURDAM_REPLY];
-    struct osturdam_heard heard = { .chars = s, .count = n, .buffer = buffer, .room = sizeof buffer };
+    struct osturdam_heard heard = {.chars = s, .count = n, .buffer = buffer, .room = sizeof buffer};
     struct osturdam_turned turned;
     STACK(deepest[0], osturdam_hear(&u.lent, &heard, &turned));
     STACK(deepest[1], plain_stretch(&u.plain_config, &u.plain, s, n, buffer, sizeof buffer));
@@ -194,7 +194,7 @@ static void tell_outcomes(const unsigned outcomes[19])
 int main(int argc, char **argv)
 {
     int stack = argc == 2 && strcmp(argv[1], "stack") == 0;
-    unsigned outcomes[19] = { 0 };
+    unsigned outcomes[19] = {0};
     uint8_t s[OSTURDAM_FRAME];
     enum kind k = SCAN;
     equip();

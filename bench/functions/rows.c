@@ -7,7 +7,7 @@
 // Table 2 names table 1 twice: 120, 120 and 15 words.
 static void three_parts(void)
 {
-    uint8_t area[256] = { 0x00, 120, [122] = 0x11, [123] = 15 };
+    uint8_t area[256] = {0x00, 120, [122] = 0x11, [123] = 15};
     for (int i = 0; i < 120; i++)
         area[2 + i] = 0x80 + i;
     for (int i = 0; i < 15; i++)
@@ -39,7 +39,7 @@ static void dump(void)
 
 static void one_more(void)
 {
-    uint16_t given[OSTURDAM_VALUES] = { 1, 2, 3, 4, 5, 6, 7, 8, 9, 10, 11, 12, 13, 14, 15, 65535 };
+    uint16_t given[OSTURDAM_VALUES] = {1, 2, 3, 4, 5, 6, 7, 8, 9, 10, 11, 12, 13, 14, 15, 65535};
     store(0, 12);
     expect("a record", store_record(&u, 0, 7, given, OSTURDAM_VALUES, 1), OSTURDAM_STORED);
 }
@@ -62,8 +62,8 @@ int main(int argc, char **argv)
     static const struct {
         const char *name;
         void (*run)(void);
-    } rows[] = { { "points", points }, { "table", table }, { "values", values }, { "dump", dump },
-                 { "store", one_more }, { "release", release }, { "refused", refused } };
+    } rows[] = {{"points", points},  {"table", table},     {"values", values},  {"dump", dump},
+                {"store", one_more}, {"release", release}, {"refused", refused}};
     equip(POINTS);
     for (size_t i = 0; argc == 2 && i < sizeof rows / sizeof rows[0]; i++)
         if (strcmp(argv[1], rows[i].name) == 0) {

@@ -19,7 +19,7 @@ static void analogs(int n)
 
 static void table(int n)
 {
-    uint8_t area[256] = { 0x00, n };
+    uint8_t area[256] = {0x00, n};
     for (int i = 0; i < n; i++)
         area[2 + i] = 0x80 + i % 128;
     equip(POINTS);
@@ -36,7 +36,7 @@ static void dump(int n)
 
 static void one_more(int n)
 {
-    uint16_t given[OSTURDAM_VALUES] = { 1, 2, 3, 4, 5, 6, 7, 8, 9, 10, 11, 12, 13, 14, 15, 65535 };
+    uint16_t given[OSTURDAM_VALUES] = {1, 2, 3, 4, 5, 6, 7, 8, 9, 10, 11, 12, 13, 14, 15, 65535};
     equip(POINTS);
     store(0, n);
     expect("a record", store_record(&u, 0, 7, given, OSTURDAM_VALUES, 1), OSTURDAM_STORED);
@@ -57,8 +57,12 @@ int main(int argc, char **argv)
         const char *name;
         void (*run)(int n);
         int most;
-    } kinds[] = { { "points", points, POINTS }, { "analogs", analogs, 128 }, { "table", table, 254 },
-                  { "dump", dump, OSTURDAM_ROOM }, { "store", one_more, OSTURDAM_ROOM - 1 }, { "refused", refused, OSTURDAM_ROOM } };
+    } kinds[] = {{"points", points, POINTS},
+                 {"analogs", analogs, 128},
+                 {"table", table, 254},
+                 {"dump", dump, OSTURDAM_ROOM},
+                 {"store", one_more, OSTURDAM_ROOM - 1},
+                 {"refused", refused, OSTURDAM_ROOM}};
     int n = argc == 3 ? atoi(argv[2]) : -1;
     for (size_t i = 0; n >= 0 && i < sizeof kinds / sizeof kinds[0]; i++)
         if (strcmp(argv[1], kinds[i].name) == 0 && n <= kinds[i].most) {

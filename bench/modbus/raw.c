@@ -15,7 +15,7 @@ __attribute__((noinline)) int raw_counted(modbus_t *m, const uint8_t *s, int n)
 
 int main(int argc, char **argv)
 {
-    uint8_t s[MODBUS_RTU_MAX_ADU_LENGTH] = { SLAVE, MODBUS_FC_WRITE_MULTIPLE_REGISTERS };
+    uint8_t s[MODBUS_RTU_MAX_ADU_LENGTH] = {SLAVE, MODBUS_FC_WRITE_MULTIPLE_REGISTERS};
     int n = argc == 2 ? atoi(argv[1]) : 0;
     must(n >= LEAST && n <= MOST, "usage: raw CHARACTERS");
     for (int i = 2; i < n; i++)

@@ -22,7 +22,7 @@ __attribute__((noinline)) int replied_counted(modbus_t *m, modbus_mapping_t *reg
 
 static void must_be_right(int sent, const uint16_t *words, int n)
 {
-    uint8_t wanted[MODBUS_RTU_MAX_ADU_LENGTH] = { SLAVE, MODBUS_FC_READ_HOLDING_REGISTERS, 2 * n };
+    uint8_t wanted[MODBUS_RTU_MAX_ADU_LENGTH] = {SLAVE, MODBUS_FC_READ_HOLDING_REGISTERS, 2 * n};
     for (int i = 0; i < n; i++) {
         wanted[3 + 2 * i] = words[i] >> 8;
         wanted[4 + 2 * i] = words[i];
@@ -41,7 +41,7 @@ int main(int argc, char **argv)
     must(registers != NULL, "no registers");
     for (int i = 0; i < MOST; i++)
         registers->tab_registers[i] = 257 * (0x80 + i) + 3;
-    memcpy(request, (uint8_t[]){ SLAVE, MODBUS_FC_READ_HOLDING_REGISTERS, 0, 0, 0, n }, REQUEST - 2);
+    memcpy(request, (uint8_t[]){SLAVE, MODBUS_FC_READ_HOLDING_REGISTERS, 0, 0, 0, n}, REQUEST - 2);
     close_frame(request, REQUEST - 2);
 
     uint8_t heard[MODBUS_RTU_MAX_ADU_LENGTH];

@@ -16,7 +16,8 @@ int main(void)
     for (int file = 0; file < OSTURDAM_FILES; file++)
         store(file, OSTURDAM_ROOM);
     size_t all = rust_bytes(u.rust, &config);
-    line("a unit with its configuration, what is to be set aside for it", sizeof u.library, sizeof u.plain + sizeof u.plain_config, all + config);
+    line("a unit with its configuration, what is to be set aside for it", sizeof u.library, sizeof u.plain + sizeof u.plain_config,
+         all + config);
     line("its configuration", sizeof u.config, sizeof u.plain_config, config);
     printf("\nThe independent program's unit grows to that from %zu bytes, with no record.\n", none + config);
     return 0;

@@ -50,18 +50,35 @@ pub extern "C" fn rust_fresh(c: &CConfig) -> *mut Unit {
     let config = config(c);
     let params = vec![0; config.parameter_length];
     let state = State::fresh();
-    Box::into_raw(Box::new(Unit { config, state, params }))
+    Box::into_raw(Box::new(Unit {
+        config,
+        state,
+        params,
+    }))
 }
 
 /// # Safety
 /// The caller hands over `heard` characters at `stretch` and `room` at `buffer`, which do not overlap.
 #[no_mangle]
-pub unsafe extern "C" fn rust_stretch(u: &mut Unit, stretch: *const u8, heard: usize, buffer: *mut u8, room: usize) -> Turned {
+pub unsafe extern "C" fn rust_stretch(
+    u: &mut Unit,
+    stretch: *const u8,
+    heard: usize,
+    buffer: *mut u8,
+    room: usize,
+) -> Turned {
     let stretch = slice::from_raw_parts(stretch, heard);
     let buffer = slice::from_raw_parts_mut(buffer, room);
     let answer = independent::stretch(&u.config, &mut u.state, &mut u.params, buffer, stretch);
-    let (action, output) = answer.action.map_or((0, 0), |done| (1 + u8::from(done.close), done.output));
-    Turned { sent: answer.sent, outcome: answer.outcome, action, output }
+    let (action, output) = answer
+        .action
+        .map_or((0, 0), |done| (1 + u8::from(done.close), done.output));
+    Turned {
+        sent: answer.sent,
+        outcome: answer.outcome,
+        action,
+        output,
+    }
 }
 
 #[no_mangle]
@@ -87,7 +104,13 @@ pub extern "C" fn rust_set_value(u: &mut Unit, calculation: u8, value: u32) -> u
 /// # Safety
 /// The caller hands over `many` values at `given`.
 #[no_mangle]
-pub unsafe extern "C" fn rust_store_record(u: &mut Unit, file: u8, event: u8, given: *const u16, many: usize) -> u8 {
+pub unsafe extern "C" fn rust_store_record(
+    u: &mut Unit,
+    file: u8,
+    event: u8,
+    given: *const u16,
+    many: usize,
+) -> u8 {
     let given = slice::from_raw_parts(given, many);
     independent::store(&u.config, &mut u.state, &u.params, file, event, given)
 }
@@ -100,7 +123,11 @@ pub extern "C" fn rust_copy(u: &Unit) -> *mut Unit {
     for (file, from) in state.files.iter_mut().zip(&u.state.files) {
         file.reserve_exact(from.capacity() - from.len());
     }
-    Box::into_raw(Box::new(Unit { config: u.config.clone(), state, params: u.params.clone() }))
+    Box::into_raw(Box::new(Unit {
+        config: u.config.clone(),
+        state,
+        params: u.params.clone(),
+    }))
 }
 
 /// # Safety
@@ -114,8 +141,11 @@ pub unsafe extern "C" fn rust_end(u: *mut Unit) {
 /// The bytes of the configuration, and of the unit with all that it has on the heap.
 #[no_mangle]
 pub extern "C" fn rust_bytes(u: &Unit, config: &mut usize) -> usize {
-    let records = |file: &Vec<Vec<u8>>| file.capacity() * size_of::<Vec<u8>>() + file.iter().map(Vec::capacity).sum::<usize>();
-    let files = u.state.files.capacity() * size_of::<Vec<Vec<u8>>>() + u.state.files.iter().map(records).sum::<usize>();
+    let records = |file: &Vec<Vec<u8>>| {
+        file.capacity() * size_of::<Vec<u8>>() + file.iter().map(Vec::capacity).sum::<usize>()
+    };
+    let files = u.state.files.capacity() * size_of::<Vec<Vec<u8>>>()
+        + u.state.files.iter().map(records).sum::<usize>();
     *config = size_of::<Config>();
     size_of::<State>() + size_of::<Vec<u8>>() + u.params.capacity() + files
 }

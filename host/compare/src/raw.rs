@@ -66,7 +66,7 @@ fn other_layout(rng: &mut Rng) -> u16 {
 /// The memory spoilt in one thing.
 fn spoilt(rng: &mut Rng, memory: &Memory, call: usize) -> Memory {
     let mut made = memory.clone();
-    if call % LAYOUT_ONE_IN == 0 {
+    if call.is_multiple_of(LAYOUT_ONE_IN) {
         made.put_layout(other_layout(rng));
     } else {
         let mut kept = memory.all_kept();
