@@ -1,4 +1,4 @@
-/* Osturdam: the remote unit of the Cooper 2179 serial protocol, as a part to link (libboard.a).
+/* Osturdam: the remote unit of the Cooper 2179 serial protocol, as a part to link (libboard.a; where it is installed, libosturdam.a).
  *
  * A unit is memory that its caller owns and lends to each call: its own memory (configuration, points, clock and what else it knows),
  * its parameter block, and its records. There is no global state, no heap and no clock: the caller hands over each stretch of
