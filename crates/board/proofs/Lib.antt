@@ -1,5 +1,6 @@
--- The laws that the proofs of this crate cite, that its contracts leave no choice, and that a run of calls is the definition's run.
+-- The laws that the proofs of this crate cite, that its contracts leave no choice, that a run of calls is the definition's run, and demand 3 of it.
 pub mod ToldLaws
 pub mod ValidLaws
 pub mod Unique
 pub mod RunLaws
+pub mod Demand3

@@ -22,9 +22,9 @@ use Rattle.model.proofs.Valid.{fresh-fits, step-fits}
 use Rattle.layout.specs.Unit.{configIn, configGiven, roomOf}
 use Rattle.serve.specs.Kept.{Kept, stateOf, Owned, ownedOf, keptIn, standing}
 use Rattle.unit.specs.Fresh.{FreshPromise}
-use Rattle.unit.specs.Calls.{Calls, none as noCalls, heard as heardCall, heeded as heededCall}
+use Rattle.unit.specs.Calls.{results as resultsOf, Calls, none as noCalls, heard as heardCall, heeded as heededCall}
 use Rattle.unit.proofs.FreshLaws.{laid-config, laid-state, laid-stands}
-use Rattle.unit.proofs.CallLaws.{results as resultsOf, calls-after, calls-trace}
+use Rattle.unit.proofs.CallLaws.{calls-after, calls-trace}
 use Rattle.board.specs.Told.{actionNumber, outputNumber}
 use Rattle.board.specs.Runs.{Shown, numbered, toldIn, Runs, none, heard, heeded, RunsAs, Taken, none as noneTaken, one}
 use Rattle.board.proofs.ToldLaws.{shown-told}

@@ -1,2 +1,3 @@
 pub mod Told
 pub mod Runs
+pub mod Demand3

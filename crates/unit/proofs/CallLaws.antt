@@ -20,13 +20,8 @@ use Rattle.model.specs.declared.Action.the-variants.{Rest}
 use Rattle.serve.specs.Kept.{Kept, stateOf}
 use Rattle.unit.specs.Events.{Heeds}
 use Rattle.serve.specs.Stretch.{Turns}
-use Rattle.unit.specs.Calls.{Local, shownBy, answeredBy, Calls, none, heard, heeded}
+use Rattle.unit.specs.Calls.{Local, results, shownBy, answeredBy, Calls, none, heard, heeded}
 use Rattle.serve.specs.declared.Made.{Made}
-
--- what the entries of a trace show
-unfoldable pub results : List Entry → List Result
-results [] = []
-results (x ∷ xs) = x .result ∷ results xs
 
 -- the state after the calls is the definition's
 pub calls-after : (c : Config) {k l : Kept} {es : List Event} {xs : List Result} → Calls c k es xs l → stateOf c l ≡ afterFrom c (stateOf c k) es

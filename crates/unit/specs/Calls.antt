@@ -5,7 +5,7 @@ use mathlib.Core.List.{List, [], _∷_}
 use lib.ListN.{length, take}
 use Rattle.model.specs.Config.{Config}
 use Rattle.model.specs.Step.{Event, stretch}
-use Rattle.model.specs.Run.{Result}
+use Rattle.model.specs.Run.{Result, Entry}
 use Rattle.model.specs.declared.Answer.{Answer}
 use Rattle.model.specs.declared.Answer.the-variants.{Ended}
 use Rattle.model.specs.declared.Action.the-variants.{Rest}
@@ -17,6 +17,11 @@ use Rattle.serve.specs.declared.Made.{Made}
 -- no stretch: time or a local event
 unfoldable pub Local : Event → Type 0
 Local e = (room : ℕ) (s : List ℕ) → e ≡ stretch room s → ⊥
+
+-- what the entries of a trace show
+unfoldable pub results : List Entry → List Result
+results [] = []
+results (x ∷ xs) = x .result ∷ results xs
 
 -- what a stretch showed: the reply is the front of the buffer that was to be sent
 abbrev pub shownBy : Made → List ℕ → Result

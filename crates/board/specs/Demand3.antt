@@ -1,0 +1,90 @@
+-- Demand 3 of runs of calls from C: each from a fresh unit, with block and room as its configuration asks, on what the call before left.
+use Prim.Native.Nat.{ℕ, _≤_}
+use mathlib.Core.Path.{_≡_}
+use mathlib.Core.List.{List, [], _∷_, _++_, map}
+use mathlib.Core.Bool.{true}
+use lib.ListN.{length}
+use Rattle.model.specs.Config.{Config, validOf}
+use Rattle.model.specs.State.{Inner, heldIn}
+use Rattle.model.specs.Step.{Event, stretch}
+use Rattle.model.specs.Run.{resultOf, entryOf, after, trace}
+use Rattle.model.specs.Formed.{AllGiven}
+use Rattle.model.specs.Line.{shown, releasedBy, storedBy, storedIn, latestIn, releasedIn}
+use Rattle.model.specs.Damage.{Damaged, Alike}
+use Rattle.model.specs.Demand3.{Acknowledged, rememberedAs}
+use Rattle.layout.specs.Unit.{configIn, configGiven, roomOf}
+use Rattle.serve.specs.Kept.{Owned, ownedOf, keptIn, stateOf}
+use Rattle.unit.specs.Fresh.{FreshPromise}
+use Rattle.unit.specs.Calls.{results}
+use Rattle.board.specs.Runs.{Shown, numbered, Runs, Taken}
+
+-- calls for the events es, from a fresh unit of the configuration whose characters are cs, that showed xs and left y
+pub record Called (cs : List ℕ) (es : List Event) (xs : List Shown) (y : Owned) : Type 0 where
+  pub unit : List ℕ
+  pub block : List ℕ
+  pub area : List ℕ
+  pub fresh : FreshPromise cs (configGiven cs .block) unit block
+  pub room : roomOf (configIn unit) ≤ length area
+  pub runs : Runs (ownedOf unit block area) es xs y
+
+-- all that lent memory means but the port, and the records in it of file g
+unfoldable pub innerLent : Owned → Inner
+innerLent y = stateOf (configIn (y .unit)) (keptIn y) .inner
+
+unfoldable pub heldLent : Owned → ℕ → List (List ℕ)
+heldLent y g = heldIn (innerLent y .history .files) g
+
+-- ---- damage
+
+-- the same numbers, and the same reply but for the port status and the check over it
+pub record AlikeShown (a b : Shown) : Type 0 where
+  pub answer : a .answer ≡ b .answer
+  pub action : a .action ≡ b .action
+  pub output : a .output ≡ b .output
+  pub reply : Alike (a .reply) (b .reply)
+
+pub data AlikeRun : List Shown → List Shown → Type 0 where
+  none : AlikeRun [] []
+  more : {a b : Shown} {xs ys : List Shown} → AlikeShown a b → AlikeRun xs ys → AlikeRun (a ∷ xs) (b ∷ ys)
+
+-- calls that showed xs and left y, with a call put in that those which showed ys and left z had not: it sent and operated nothing, what
+-- came before it is the same, what came later alike, and the memory left means the same but for the port
+pub record UnseenCall (xs ys : List Shown) (y z : Owned) : Type 0 where
+  pub earlier : List Shown
+  pub call : Shown
+  pub later : List Shown
+  pub without : List Shown
+  pub parts : xs ≡ earlier ++ (call ∷ later)
+  pub rest : ys ≡ earlier ++ without
+  pub unanswered : call .reply ≡ []
+  pub rests : call .action ≡ 0
+  pub alike : AlikeRun later without
+  pub kept : innerLent y ≡ innerLent z
+
+-- ---- records
+
+-- calls that showed xs and left y: what they showed is the definition's trace in numbers, the records stored are those released and then
+-- those in the memory left, and the reply that this remembers is the latest on the line
+pub record Accounts (c : Config) (es : List Event) (xs : List Shown) (y : Owned) : Type 0 where
+  pub shown : xs ≡ map numbered (results (trace c es))
+  pub records : (g : ℕ) → storedIn (trace c es) g ≡ releasedIn c (trace c es) g ++ heldLent y g
+  pub memory : latestIn c (trace c es) ≡ rememberedAs (innerLent y .history .memory) (innerLent y .history .files)
+
+-- one call more, for the event e, on the memory y, that left z: what file g held, and what is stored now, is what is released now, and
+-- what it holds then; and a release is of what the latest history reply had given the master that acknowledges it
+pub record AccountsFor (c : Config) (es : List Event) (e : Event) (y z : Owned) (g : ℕ) : Type 0 where
+  pub balance : heldLent y g ++ storedBy e (innerLent y .core .clock) (resultOf c (after c es) e .answer) g
+      ≡ releasedBy (latestIn c (trace c es)) (shown c (entryOf c (after c es) e)) g ++ heldLent z g
+  pub release : (releasedBy (latestIn c (trace c es)) (shown c (entryOf c (after c es) e)) g ≡ [] → ⊥)
+      → Acknowledged c (latestIn c (trace c es)) (entryOf c (after c es) e) g
+
+-- ---- the demand
+
+-- for the characters of any configuration, and every run of calls
+pub record CallsDemand3 (cs : List ℕ) : Type 0 where
+  pub taken : {es : List Event} {xs : List Shown} {y : Owned} → validOf (configGiven cs) ≡ true → AllGiven es → Called cs es xs y → Taken xs
+  pub damage : (ds : List Event) (room : ℕ) {t : List ℕ} (es : List Event) {xs ys : List Shown} {y z : Owned}
+      → Damaged t → Called cs (ds ++ (stretch room t ∷ es)) xs y → Called cs (ds ++ es) ys z → UnseenCall xs ys y z
+  pub records : {es : List Event} {xs : List Shown} {y : Owned} → Called cs es xs y → Accounts (configGiven cs) es xs y
+  pub calls : (es : List Event) (e : Event) {xs ys : List Shown} {y z : Owned}
+      → Called cs es xs y → Called cs (es ++ (e ∷ [])) ys z → (g : ℕ) → AccountsFor (configGiven cs) es e y z g
