@@ -9,6 +9,7 @@
 #include <stdio.h>
 #include <stdlib.h>
 #include <string.h>
+#include <sys/ioctl.h>
 #include <sys/socket.h>
 #include <termios.h>
 #include <unistd.h>
@@ -138,6 +139,12 @@ bool channel_read(struct channel *channel)
     if (many > 0)
         stretch_take(&channel->stretch, come, (size_t)many, clock_now());
     return many > 0;
+}
+
+bool channel_waits(const struct channel *channel)
+{
+    int many = 0;
+    return ioctl(channel->file, FIONREAD, &many) == 0 && many > 0;
 }
 
 void channel_send(struct channel *channel, const uint8_t *reply, size_t many)

@@ -37,6 +37,9 @@ void line_accept(struct line *line);
 /* Takes what a channel has brought. false: it has ended. */
 bool channel_read(struct channel *channel);
 
+/* Whether characters have come that were not read. */
+bool channel_waits(const struct channel *channel);
+
 /* Sends a reply whole, or says on standard error that it could not. */
 void channel_send(struct channel *channel, const uint8_t *reply, size_t many);
 

@@ -5,7 +5,7 @@
 #include "clock.h"
 #include "config.h"
 #include "events.h"
-#include "journal.h"
+#include "log.h"
 #include "line.h"
 #include "options.h"
 #include "serve.h"
@@ -79,12 +79,13 @@ int main(int many, char **words)
         return EXIT_CONFIG;
     if (!restore(&options, &store))
         return EXIT_STATE;
-    if (!journal_open(options.log) || !events_open(&events, options.events))
+    if (!log_open(options.log) || !events_open(&events, options.events))
         return EXIT_FAILURE;
     if (!connect_line(&options, &line))
         return EXIT_LINE;
     struct server server = {.all = &all, .lent = osturdam_lend(&all, &all.unit.config), .store = store, .line = &line, .events = &events,
-                            .quiet = {(int64_t)options.gap * NS_OF_MS, (int64_t)options.suspension * NS_OF_MS}};
+                            .quiet = {(int64_t)options.gap * NS_OF_MS, (int64_t)options.suspension * NS_OF_MS},
+                            .within = (int64_t)options.reply_within * NS_OF_MS};
     if (!serve_begin(&server))
         return EXIT_STATE;
     printf("unit %u on %s\n", osturdam_number_of(&all.unit.config), line.name);

@@ -10,7 +10,7 @@
 
 enum { LEAST_GAP = 20, LONGEST_WAIT = 10000 };
 
-static const struct options defaults = {.baud = 9600, .suspension = 1000, .address = "127.0.0.1"};
+static const struct options defaults = {.baud = 9600, .suspension = 1000, .reply_within = 100, .address = "127.0.0.1"};
 
 static bool wrong(const char *option, const char *what)
 {
@@ -35,10 +35,11 @@ static const char **text_of(struct options *o, const char *option)
 
 static uint32_t *number_option(struct options *o, const char *option)
 {
-    return strcmp(option, "--baud") == 0         ? &o->baud
-           : strcmp(option, "--gap") == 0        ? &o->gap
-           : strcmp(option, "--suspension") == 0 ? &o->suspension
-                                                 : NULL;
+    return strcmp(option, "--baud") == 0           ? &o->baud
+           : strcmp(option, "--gap") == 0          ? &o->gap
+           : strcmp(option, "--suspension") == 0   ? &o->suspension
+           : strcmp(option, "--reply-within") == 0 ? &o->reply_within
+                                                   : NULL;
 }
 
 static bool *flag_option(struct options *o, const char *option)
@@ -117,6 +118,9 @@ static const char help[] =
     "  --baud RATE            of the serial device: 1200, 2400, 4800, 9600 (the default) or 19200\n"
     "  --gap MS               quiet time that is an idle mark; 3.5 characters at the baud rate, at least 20 ms\n"
     "  --suspension MS        quiet time that is an idle mark behind the header of a Set Time (1000)\n"
+    "  --reply-within MS      a reply that could not begin so soon after the idle mark is not sent (100): a master that\n"
+    "                         has given up must not take it for its next answer. A master has to wait longer than this,\n"
+    "                         the gap and the sending of request and reply together\n"
     "\n"
     "The unit:\n"
     "  --config FILE          what it is equipped with; without, the bench unit\n"
@@ -126,7 +130,8 @@ static const char help[] =
     "  --fresh                begin with a fresh unit, whatever the state file has\n"
     "  --events FIFO          read local events there (made if it is missing), or from standard input (-)\n"
     "  --log FILE             append each event and what came out, - for standard output; fields parted by tabs:\n"
-    "                         T ms, R stretch outcome reply, A output action, E event figures outcome\n"
+    "                         T ms, R stretch outcome reply, L why that reply was not sent, A output action,\n"
+    "                         E event figures outcome\n"
     "  --help                 print this\n"
     "\n"
     "Standard output has the line's name, then a line for each output action. SIGTERM and SIGINT end it in order.\n"

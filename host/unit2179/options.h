@@ -11,6 +11,7 @@ struct options {
     uint32_t baud;
     uint32_t gap; /* milliseconds */
     uint32_t suspension;
+    uint32_t reply_within;
     char address[64]; /* of the TCP port */
     uint16_t port;
 };

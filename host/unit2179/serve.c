@@ -8,7 +8,7 @@
 #include <unistd.h>
 
 #include "clock.h"
-#include "journal.h"
+#include "log.h"
 
 enum {
     KEEP_MS = 60000,                 /* the kept clock is never further behind */
@@ -37,7 +37,7 @@ static void pass(struct server *s, uint32_t ms)
     if (ms == 0)
         return;
     osturdam_wait(&s->lent, ms);
-    journal_time(ms);
+    log_time(ms);
 }
 
 static void pass_time(struct server *s)
@@ -71,6 +71,26 @@ static bool reached(enum osturdam_outcome outcome)
     return outcome != OSTURDAM_NOT_WHOLE && outcome != OSTURDAM_CHECK_WRONG && outcome != OSTURDAM_OTHER_UNIT;
 }
 
+/* A master that has given up on its request must not take the reply for the answer to its next one: why it is not sent, or NULL. */
+static const char *unsent(const struct server *s, const struct channel *channel, int64_t marked)
+{
+    if (clock_now() - marked > s->within)
+        return "late";
+    return channel_waits(channel) ? "new characters" : NULL;
+}
+
+static void send_reply(struct server *s, struct channel *channel, int64_t marked, const uint8_t *reply, size_t many)
+{
+    const char *why = unsent(s, channel, marked);
+    if (!why) {
+        channel_send(channel, reply, many);
+        return;
+    }
+    log_unsent(why);
+    complain(&(struct place){s->line->name, 0}, "a reply was not sent: %s",
+             strcmp(why, "late") == 0 ? "it was late" : "new characters had come");
+}
+
 /* An idle mark. What a reply tells or an action does is kept first: a master never holds a reply that the unit can forget. */
 static bool hear(struct server *s, struct channel *channel)
 {
@@ -78,16 +98,17 @@ static bool hear(struct server *s, struct channel *channel)
     struct stretch *stretch = &channel->stretch;
     struct osturdam_heard heard = {.chars = stretch->chars, .count = stretch->heard, .buffer = reply, .room = sizeof reply};
     struct osturdam_turned turned;
+    int64_t marked = stretch_due(stretch, &s->quiet);
     pass_time(s);
     osturdam_hear(&s->lent, &heard, &turned);
     if (reached(turned.outcome) && !keep(s))
         return false;
-    journal_stretch(stretch->chars, stretch->heard, &turned, reply);
+    log_stretch(stretch->chars, stretch->heard, &turned, reply);
     stretch->heard = 0;
     if (turned.action != OSTURDAM_REST)
-        journal_action(&turned);
+        log_action(&turned);
     if (turned.sent > 0)
-        channel_send(channel, reply, turned.sent);
+        send_reply(s, channel, marked, reply, turned.sent);
     return true;
 }
 
@@ -99,7 +120,7 @@ static bool take_event(void *context, const struct event *event)
     unsigned outcome = event_apply(event, &s->lent);
     if (!keep(s))
         return false;
-    journal_event(event, outcome);
+    log_event(event, outcome);
     if (outcome != OSTURDAM_DONE)
         complain(&s->events->at, "%s", event_refusal(event, outcome));
     return true;

@@ -14,6 +14,7 @@ struct server {
     struct line *line;
     struct events *events;
     struct quiet quiet;
+    int64_t within; /* nanoseconds from an idle mark to the first character of its reply */
     int64_t told; /* up to when the unit has been told the time */
     int64_t kept; /* when its state was last kept */
 };

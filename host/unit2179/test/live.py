@@ -14,6 +14,7 @@ HERE = os.path.dirname(os.path.abspath(__file__))
 ROOT = os.path.dirname(os.path.dirname(os.path.dirname(HERE)))
 SAMPLE = os.path.join(ROOT, 'samples', 'unit2179.conf')
 RUN = os.environ['UNIT2179'].split()
+SLOW = os.environ['UNIT2179_FAULTS'].split()  # the same with test/faults.c beside it
 MEMORY = '/dev/shm'  # a kill loses nothing that was written, so no test need wait for a busy disk
 UNIT, A, B = 1234, 1, 2
 
@@ -34,14 +35,14 @@ def until(found, seconds=10):
 
 
 class Unit:
-    """A unit that has begun to serve; its log is read from file `log` of the folder."""
+    """A unit that has begun to serve; its log is file `log` of the folder, or another."""
 
-    def __init__(self, folder, *options):
-        self.log_path = os.path.join(folder, 'log')
+    def __init__(self, folder, *options, run=RUN, faults=None, log='log'):
+        self.log_path = os.path.join(folder, log)
         self.errors_path = os.path.join(folder, 'errors')
         with open(self.errors_path, 'a') as errors:
-            self.process = subprocess.Popen([*RUN, '--log', self.log_path, *options], cwd=folder, stdin=subprocess.DEVNULL,
-                                            stdout=subprocess.PIPE, stderr=errors)
+            self.process = subprocess.Popen([*run, '--log', self.log_path, *options], cwd=folder, stdin=subprocess.DEVNULL,
+                                            stdout=subprocess.PIPE, stderr=errors, env={**os.environ, 'FAULTS': faults or ''})
         self.told = self.line()
         self.name = self.told.rpartition(' ')[2]
 
@@ -84,10 +85,25 @@ class LiveTest(unittest.TestCase):
             file.write(text)
         return self.path(name)
 
-    def unit(self, *options):
-        unit = Unit(self.folder, *options)
+    def unit(self, *options, **how):
+        """A unit that may take its time: tests run on loaded machines and under an emulator."""
+        if '--reply-within' not in options:
+            options = (*options, '--reply-within', '10000')
+        return self.unit_as_is(*options, **how)
+
+    def unit_as_is(self, *options, **how):
+        unit = Unit(self.folder, *options, **how)
         self.addCleanup(unit.end, signal.SIGKILL)
         return unit
+
+    def slow_unit(self, *options, **how):
+        """A unit on a disk that `disk` makes slow, full or broken."""
+        return self.unit_as_is(*options, run=SLOW, faults=self.path('faults'), **how)
+
+    def disk(self, *faults):
+        """What the disk is like from now on; test/faults.c has the words."""
+        self.write('faults.next', ''.join(line + '\n' for line in faults))
+        os.rename(self.path('faults.next'), self.path('faults'))
 
     def wire(self, place):
         wire = Wire(place)

@@ -14,8 +14,8 @@ class Start(LiveTest):
         done = subprocess.run([*RUN, '--help'], capture_output=True, text=True, timeout=10)
         self.assertEqual(done.returncode, 0)
         with open(os.path.join(ROOT, 'host', 'unit2179', 'options.c')) as source:
-            options = set(re.findall(r'"(--[a-z]+)"', source.read()))
-        self.assertEqual(len(options), 12)
+            options = set(re.findall(r'"(--[a-z-]+)"', source.read()))
+        self.assertEqual(len(options), 13)
         for option in options:
             self.assertIn(f'\n  {option} ', done.stdout)
 

@@ -1,4 +1,4 @@
-#include "journal.h"
+#include "log.h"
 
 #include <errno.h>
 #include <stdio.h>
@@ -8,7 +8,7 @@
 
 static FILE *into;
 
-bool journal_open(const char *path)
+bool log_open(const char *path)
 {
     /* whole lines, so that what was told stands there when the process is killed */
     setvbuf(stdout, NULL, _IOLBF, 0);
@@ -29,13 +29,13 @@ static void put_hex(const uint8_t *chars, size_t many)
         fprintf(into, "%02X", chars[i]);
 }
 
-void journal_time(uint32_t ms)
+void log_time(uint32_t ms)
 {
     if (into)
         fprintf(into, "T\t%u\n", (unsigned)ms);
 }
 
-void journal_stretch(const uint8_t *stretch, size_t heard, const struct osturdam_turned *turned, const uint8_t *reply)
+void log_stretch(const uint8_t *stretch, size_t heard, const struct osturdam_turned *turned, const uint8_t *reply)
 {
     if (!into)
         return;
@@ -46,7 +46,13 @@ void journal_stretch(const uint8_t *stretch, size_t heard, const struct osturdam
     fputs(turned->sent > 0 ? "\n" : "-\n", into);
 }
 
-void journal_action(const struct osturdam_turned *turned)
+void log_unsent(const char *why)
+{
+    if (into)
+        fprintf(into, "L\t%s\n", why);
+}
+
+void log_action(const struct osturdam_turned *turned)
 {
     const char *what = turned->action == OSTURDAM_CLOSE ? "close" : "open";
     printf("output %02Xh %s\n", turned->output, what);
@@ -54,7 +60,7 @@ void journal_action(const struct osturdam_turned *turned)
         fprintf(into, "A\t%u\t%s\n", turned->output, what);
 }
 
-void journal_event(const struct event *event, unsigned outcome)
+void log_event(const struct event *event, unsigned outcome)
 {
     if (!into)
         return;
