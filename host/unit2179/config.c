@@ -1,26 +1,36 @@
 #include "config.h"
 
-#include <errno.h>
+#include <stdarg.h>
 #include <stdio.h>
-#include <stdlib.h>
 #include <string.h>
 
 #include "text.h"
 
-enum { UNIT_MOST = 0x7FE, NUMBER_MOST = OSTURDAM_INPUTS - 1 };
-
 struct reading {
-    struct place at;
+    unsigned line;
     struct osturdam_config *config;
     bool unit, block; /* already given */
-    bool good;
+    struct config_fault *faults;
+    size_t many, room; /* faults found, and how many may be told */
 };
 
-#define WRONG(r, ...) ((r)->good = false, complain(&(r)->at, __VA_ARGS__))
+static void wrong(struct reading *r, const char *format, ...) __attribute__((format(printf, 2, 3)));
+
+static void wrong(struct reading *r, const char *format, ...)
+{
+    va_list given;
+    va_start(given, format);
+    if (r->many < r->room) {
+        r->faults[r->many].line = r->line;
+        vsnprintf(r->faults[r->many].what, CONFIG_WHAT, format, given);
+    }
+    va_end(given);
+    r->many++;
+}
 
 static bool any_fits(uint32_t number)
 {
-    return number <= NUMBER_MOST;
+    return number <= CONFIG_NUMBER_MOST;
 }
 
 static bool input_fits(uint32_t number)
@@ -38,9 +48,9 @@ static bool range_of(char *word, uint32_t *first, uint32_t *last)
 {
     char *dash = strchr(word, '-');
     if (!dash)
-        return number_of(word, NUMBER_MOST, first) && number_of(word, NUMBER_MOST, last);
+        return number_of(word, CONFIG_NUMBER_MOST, first) && number_of(word, CONFIG_NUMBER_MOST, last);
     *dash = '\0';
-    bool good = number_of(word, NUMBER_MOST, first) && number_of(dash + 1, NUMBER_MOST, last) && *first <= *last;
+    bool good = number_of(word, CONFIG_NUMBER_MOST, first) && number_of(dash + 1, CONFIG_NUMBER_MOST, last) && *first <= *last;
     *dash = '-';
     return good;
 }
@@ -49,17 +59,17 @@ static void equip(struct reading *r, char **words, size_t many, bool (*fits)(uin
                   void (*take)(struct osturdam_config *, uint8_t))
 {
     if (many < 2)
-        WRONG(r, "%s: no number is given", words[0]);
+        wrong(r, "%s: no number is given", words[0]);
     for (size_t i = 1; i < many; i++) {
         uint32_t first, last;
         if (!range_of(words[i], &first, &last)) {
-            WRONG(r, "%s: '%s' is no number from 0 to FFh and no rising range of two", words[0], words[i]);
+            wrong(r, "%s: '%.40s' is no number from 0 to FFh and no rising range of two", words[0], words[i]);
             continue;
         }
         while (first <= last && fits(first))
             take(r->config, (uint8_t)first++);
         if (first <= last)
-            WRONG(r, "%s: none can have the number %02Xh", words[0], (unsigned)first);
+            wrong(r, "%s: none can have the number %02Xh", words[0], (unsigned)first);
     }
 }
 
@@ -82,16 +92,16 @@ static void take_calculations(struct reading *r, char **words, size_t many)
 static void take_single(struct reading *r, char **words, size_t many, uint32_t most, bool *given, uint32_t *number)
 {
     if (*given)
-        WRONG(r, "%s is given a second time", words[0]);
+        wrong(r, "%s is given a second time", words[0]);
     *given = true;
     if (many != 2 || !number_of(words[1], most, number))
-        WRONG(r, "%s takes one number, 0 to %u (%Xh)", words[0], (unsigned)most, (unsigned)most);
+        wrong(r, "%s takes one number, 0 to %u (%Xh)", words[0], (unsigned)most, (unsigned)most);
 }
 
 static void take_unit(struct reading *r, char **words, size_t many)
 {
     uint32_t number = 0;
-    take_single(r, words, many, UNIT_MOST, &r->unit, &number);
+    take_single(r, words, many, CONFIG_UNIT_MOST, &r->unit, &number);
     osturdam_put_number(r->config, (uint16_t)number);
 }
 
@@ -106,11 +116,11 @@ static void take_file(struct reading *r, char **words, size_t many)
 {
     uint32_t file, values;
     if (many != 3 || !number_of(words[1], OSTURDAM_FILES - 1, &file) || !number_of(words[2], OSTURDAM_VALUES, &values) || values == 0) {
-        WRONG(r, "file takes its number, 0 to %d, and how many values its records have, 1 to %d", OSTURDAM_FILES - 1, OSTURDAM_VALUES);
+        wrong(r, "file takes its number, 0 to %d, and how many values its records have, 1 to %d", OSTURDAM_FILES - 1, OSTURDAM_VALUES);
         return;
     }
     if (osturdam_has_file(r->config, (uint8_t)file))
-        WRONG(r, "file %u is given a second time", (unsigned)file);
+        wrong(r, "file %u is given a second time", (unsigned)file);
     osturdam_equip_file(r->config, (uint8_t)file, (uint8_t)values);
 }
 
@@ -122,53 +132,53 @@ static const struct {
     {"file", take_file}, {"block", take_block},
 };
 
-static void take_line(struct reading *r, char *line, size_t length)
+static void take_words(struct reading *r, char **words, size_t many)
 {
-    char *words[TEXT_WORDS];
-    if (strlen(line) != length) {
-        WRONG(r, "the line has a character that is no text");
-        return;
-    }
-    size_t many = words_of(line, words);
-    if (many == 0)
-        return;
-    if (many > TEXT_WORDS) {
-        WRONG(r, "the line has %zu words, of which %d are read: let the list go on in a second line", many, TEXT_WORDS);
-        return;
-    }
     for (size_t i = 0; i < sizeof lines / sizeof *lines; i++) {
         if (strcmp(words[0], lines[i].word) == 0) {
             lines[i].take(r, words, many);
             return;
         }
     }
-    WRONG(r, "'%s' is no word that a line begins with (unit, inputs, outputs, calculations, file, block)", words[0]);
+    wrong(r, "'%.40s' is no word that a line begins with (unit, inputs, outputs, calculations, file, block)", words[0]);
 }
 
-bool config_read(const char *path, struct osturdam_config *config)
+static void take_line(struct reading *r, const char *chars, size_t length)
 {
-    struct reading r = {.at = {path, 0}, .config = config, .good = true};
-    FILE *file = fopen(path, "r");
-    if (!file) {
-        complain(&r.at, "%s", strerror(errno));
-        return false;
+    char line[CONFIG_LINE];
+    char *words[TEXT_WORDS];
+    r->line++;
+    if (length >= sizeof line) {
+        wrong(r, "the line is longer than %d characters", CONFIG_LINE - 1);
+        return;
     }
+    memcpy(line, chars, length);
+    line[length] = '\0';
+    if (strlen(line) != length) {
+        wrong(r, "the line has a character that is no text");
+        return;
+    }
+    size_t many = words_of(line, words);
+    if (many > TEXT_WORDS)
+        wrong(r, "the line has %zu words, of which %d are read: let the list go on in a second line", many, TEXT_WORDS);
+    else if (many > 0)
+        take_words(r, words, many);
+}
+
+size_t config_read(const char *text, size_t length, struct osturdam_config *config, struct config_fault *faults, size_t room)
+{
+    struct reading r = {.config = config, .faults = faults, .room = room};
     memset(config, 0, sizeof *config);
-    char *line = NULL;
-    size_t room = 0;
-    ssize_t length;
-    while ((length = getline(&line, &room, file)) >= 0) {
-        r.at.line++;
-        take_line(&r, line, (size_t)length);
+    for (const char *end = text + length; text < end;) {
+        const char *ends = memchr(text, '\n', (size_t)(end - text));
+        size_t many = (size_t)((ends ? ends : end) - text);
+        take_line(&r, text, many);
+        text += ends ? many + 1 : many;
     }
-    r.at.line = 0;
-    if (ferror(file))
-        WRONG(&r, "%s", strerror(errno));
-    else if (!r.unit)
-        WRONG(&r, "there is no line with the unit's number");
-    free(line);
-    fclose(file);
-    return r.good;
+    r.line = 0;
+    if (!r.unit)
+        wrong(&r, "there is no line with the unit's number");
+    return r.many;
 }
 
 void config_bench(struct osturdam_config *config)
@@ -177,17 +187,4 @@ void config_bench(struct osturdam_config *config)
     osturdam_put_number(config, 1234);
     osturdam_equip_input(config, 0x30);
     osturdam_equip_input(config, 0x40);
-}
-
-void config_help(void)
-{
-    printf("Configuration lines (a number with an h behind it is hexadecimal, any other decimal; # begins a comment):\n"
-           "  unit NUMBER            0 to %Xh; the one line that must be there\n"
-           "  inputs LIST            equipped inputs, e.g. 30h 40h-43h; two-bit status 00-1Fh, status 30h-3Fh,\n"
-           "                         accumulators 40h-5Fh, analogs 80h-FFh\n"
-           "  outputs LIST           equipped control outputs, 00 to %Xh\n"
-           "  calculations LIST      equipped special calculations, 00 to %Xh\n"
-           "  file NUMBER VALUES     a history file, 0 to %d, whose records have 1 to %d values\n"
-           "  block LENGTH           characters of the parameter block, 0 to %d\n",
-           UNIT_MOST, NUMBER_MOST, OSTURDAM_CALCULATIONS - 1, OSTURDAM_FILES - 1, OSTURDAM_VALUES, OSTURDAM_BLOCK);
 }

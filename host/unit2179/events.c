@@ -7,6 +7,8 @@
 #include <sys/stat.h>
 #include <unistd.h>
 
+#include "text.h"
+
 static unsigned set_word(const struct event *e, const struct osturdam_lent *l)
 {
     return osturdam_take_word(l, (uint8_t)e->figures[0], (uint16_t)e->figures[1]);
@@ -105,44 +107,57 @@ static bool event_of(const struct place *at, char *line, struct event *event)
     return false;
 }
 
-static bool end_line(struct events *e, bool (*take)(void *, const struct event *), void *context)
+/* Takes characters that have come until a line is whole. */
+static void gather(struct events *e)
 {
-    struct event event;
-    size_t length = e->length;
-    e->length = 0;
-    e->at.line++;
-    if (length == EVENT_LINE) {
-        complain(&e->at, "the line is longer than %d characters", EVENT_LINE - 1);
-        return true;
+    while (!e->ready && e->from < e->to) {
+        char c = e->come[e->from++];
+        if (c == '\n')
+            e->ready = true;
+        else if (e->length < EVENT_LINE)
+            e->line[e->length++] = c;
     }
-    e->line[length] = '\0';
-    if (strlen(e->line) != length) {
-        complain(&e->at, "the line has a character that is no text");
-        return true;
-    }
-    return !event_of(&e->at, e->line, &event) || take(context, &event);
+    if (e->file < 0 && e->length > 0)
+        e->ready = true;
 }
 
-bool events_read(struct events *e, bool (*take)(void *context, const struct event *event), void *context)
+void events_read(struct events *e)
 {
-    char come[1024];
-    ssize_t many = read(e->file, come, sizeof come);
+    ssize_t many = read(e->file, e->come, sizeof e->come);
     if (many < 0 && (errno == EAGAIN || errno == EINTR))
-        return true;
+        return;
     if (many < 0)
         complain(&e->at, "%s", strerror(errno));
-    for (ssize_t i = 0; i < many; i++) {
-        if (come[i] == '\n') {
-            if (!end_line(e, take, context))
-                return false;
-        } else if (e->length < EVENT_LINE) {
-            e->line[e->length++] = come[i];
-        }
+    e->from = 0;
+    e->to = many > 0 ? (size_t)many : 0;
+    if (many <= 0)
+        e->file = -1;
+    gather(e);
+}
+
+bool events_ready(const struct events *e)
+{
+    return e->ready;
+}
+
+bool events_next(struct events *e, struct event *event)
+{
+    char line[EVENT_LINE];
+    size_t length = e->length;
+    memcpy(line, e->line, length);
+    e->length = 0;
+    e->ready = false;
+    e->at.line++;
+    gather(e);
+    if (length == EVENT_LINE) {
+        complain(&e->at, "the line is longer than %d characters", EVENT_LINE - 1);
+        return false;
     }
-    if (many > 0)
-        return true;
-    e->file = -1;
-    return e->length == 0 || end_line(e, take, context);
+    line[length] = '\0';
+    if (strlen(line) == length)
+        return event_of(&e->at, line, event);
+    complain(&e->at, "the line has a character that is no text");
+    return false;
 }
 
 unsigned event_apply(const struct event *event, const struct osturdam_lent *lent)

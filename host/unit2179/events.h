@@ -5,7 +5,7 @@
 #include <stdbool.h>
 
 #include "osturdam.h"
-#include "text.h"
+#include "say.h"
 
 enum { EVENT_FIGURES = 2 + OSTURDAM_VALUES, EVENT_LINE = 512 };
 
@@ -21,16 +21,24 @@ struct events {
     struct place at;
     int file;   /* -1: nothing more comes */
     int writer; /* of a FIFO, held so that it does not end when a writer does */
+    char come[1024]; /* what was read, */
+    size_t from, to; /* and which of it is in no line yet */
     char line[EVENT_LINE];
     size_t length;
+    bool ready; /* the line is whole */
 };
 
 /* Opens a FIFO, which is made if nothing is there, or standard input (`-`), or nothing (NULL). false: told on standard error. */
 bool events_open(struct events *events, const char *path);
 
-/* Reads what has come and calls `take` for each whole line that is an event; any other is told on standard error. Stops where
- * `take` answers false, and answers that. */
-bool events_read(struct events *events, bool (*take)(void *context, const struct event *event), void *context);
+/* Reads what has come; only where no line is ready. */
+void events_read(struct events *events);
+
+/* Whether a line is ready. */
+bool events_ready(const struct events *events);
+
+/* Takes the line that is ready. false: it is no event; unless it is empty, that is told on standard error. */
+bool events_next(struct events *events, struct event *event);
 
 /* Has the unit hear of an event. Answers an outcome, or for a record how storing it ended. */
 unsigned event_apply(const struct event *event, const struct osturdam_lent *lent);

@@ -5,31 +5,30 @@
 #include <stdio.h>
 #include <string.h>
 
-/* Each part's name, and where it lies. */
+/* Each part's name, and where it lies; the unit's regions first. */
 #define PARTS(PART)                                                                                                     \
-    PART(layout, unit.layout) PART(config.number, unit.config.number) PART(config.length, unit.config.length)           \
-    PART(config.inputs, unit.config.inputs) PART(config.outputs, unit.config.outputs)                                   \
-    PART(config.calculations, unit.config.calculations) PART(config.files, unit.config.files)                           \
-    PART(config.values, unit.config.values) PART(numbers, unit.numbers) PART(words, unit.words)                         \
-    PART(results, unit.results) PART(fixed, unit.fixed) PART(counts, unit.counts) PART(block, block) PART(records, records)
+    PART(layout, all.unit.layout) PART(config.number, all.unit.config.number)                                           \
+    PART(config.length, all.unit.config.length) PART(config.inputs, all.unit.config.inputs)                             \
+    PART(config.outputs, all.unit.config.outputs) PART(config.calculations, all.unit.config.calculations)               \
+    PART(config.files, all.unit.config.files) PART(config.values, all.unit.config.values)                               \
+    PART(numbers, all.unit.numbers) PART(words, all.unit.words) PART(results, all.unit.results)                         \
+    PART(fixed, all.unit.fixed) PART(counts, all.unit.counts) PART(block, all.block) PART(records, all.records)         \
+    PART(journal.history, history) PART(journal.entry, entry)
 
-#define LENGTH(path) sizeof(((struct osturdam_together *)0)->path)
-#define ROW(name, path) {#name, offsetof(struct osturdam_together, path), LENGTH(path)},
+#define LENGTH(path) sizeof(((struct kept *)0)->path)
+#define ROW(name, path) {#name, offsetof(struct kept, path), LENGTH(path)},
 #define PLUS_LENGTH(name, path) +LENGTH(path)
 #define AND_NAMED(name, path) &&sizeof #name <= IMAGE_NAME
 
-static const struct part {
-    const char *name;
-    size_t at, many;
-} parts[] = {PARTS(ROW)};
+static const struct region parts[] = {PARTS(ROW)};
 
 _Static_assert(sizeof parts / sizeof *parts == IMAGE_PARTS, "the image has room for each part");
-_Static_assert(0 PARTS(PLUS_LENGTH) == IMAGE_CHARS, "the parts are all of a unit");
+_Static_assert(0 PARTS(PLUS_LENGTH) == IMAGE_CHARS && sizeof(struct kept) == IMAGE_CHARS, "the parts are all that is kept");
 _Static_assert(1 PARTS(AND_NAMED), "a name and a 0 behind it fit");
 
-static struct osturdam_together whole; /* 40 KB, which a small stack may not have */
+static struct kept whole; /* 40 KB, which a small stack may not have */
 
-static uint64_t number_at(const uint8_t *chars, size_t width)
+uint64_t number_at(const uint8_t *chars, size_t width)
 {
     uint64_t number = 0;
     for (size_t i = 0; i < width; i++)
@@ -37,41 +36,48 @@ static uint64_t number_at(const uint8_t *chars, size_t width)
     return number;
 }
 
-static uint8_t *put_number(uint8_t *chars, uint64_t number, size_t width)
+uint8_t *put_number(uint8_t *chars, uint64_t number, size_t width)
 {
     for (size_t i = 0; i < width; i++)
         chars[i] = (uint8_t)(number >> 8 * i);
     return chars + width;
 }
 
-/* FNV-1a of 64 bits: any one changed character changes it. */
-static uint64_t check_of(const uint8_t *chars, size_t many)
+/* FNV-1a of 64 bits. */
+uint64_t check_of(uint64_t begun, const uint8_t *chars, size_t many)
 {
-    uint64_t check = 0xCBF29CE484222325u;
+    uint64_t check = 0xCBF29CE484222325u ^ begun;
     for (size_t i = 0; i < many; i++)
         check = (check ^ chars[i]) * 0x100000001B3u;
     return check;
 }
 
+void image_order(struct image_order *order)
+{
+    order->many = IMAGE_PARTS;
+    memcpy(order->parts, parts, sizeof parts);
+}
+
 static const char title[8] = {'u', 'n', 'i', 't', '2', '1', '7', '9'};
 
-void image_write(uint8_t image[IMAGE], const struct osturdam_together *all)
+void image_write(uint8_t image[IMAGE], const struct kept *kept)
 {
     memset(image, 0, IMAGE);
     memcpy(image, title, sizeof title);
     uint8_t *at = put_number(put_number(image + sizeof title, IMAGE_VERSION, 2), IMAGE, 4);
-    for (const struct part *p = parts; p < parts + IMAGE_PARTS; p++) {
+    for (const struct region *p = parts; p < parts + IMAGE_PARTS; p++) {
         memcpy(at, p->name, strlen(p->name));
         at = put_number(at + IMAGE_NAME, p->many, 4);
-        memcpy(at, (const uint8_t *)all + p->at, p->many);
+        memcpy(at, (const uint8_t *)kept + p->at, p->many);
         at += p->many;
     }
-    put_number(at, check_of(image, IMAGE - IMAGE_CHECK), IMAGE_CHECK);
+    put_number(at, check_of(0, image, IMAGE - IMAGE_CHECK), IMAGE_CHECK);
 }
 
 struct reading {
     const uint8_t *at, *end;
     bool taken[IMAGE_PARTS];
+    struct image_order *order;
 };
 
 /* What is wrong, until the next. */
@@ -108,6 +114,7 @@ static const char *take(struct reading *r, const char *name, size_t many)
         return told("its part '%s' has not %zu characters", parts[i].name, parts[i].many);
     memcpy((uint8_t *)&whole + parts[i].at, r->at, many);
     r->taken[i] = true;
+    r->order->parts[r->order->many++] = parts[i];
     r->at += many;
     return NULL;
 }
@@ -149,29 +156,31 @@ static const char *damage(const uint8_t *image, size_t many)
         return "it is no state file";
     if (number_at(image + sizeof title + 2, 4) != many)
         return "it is not whole";
-    if (number_at(image + many - IMAGE_CHECK, IMAGE_CHECK) != check_of(image, many - IMAGE_CHECK))
+    if (number_at(image + many - IMAGE_CHECK, IMAGE_CHECK) != check_of(0, image, many - IMAGE_CHECK))
         return "it is damaged: its check does not fit";
     return NULL;
 }
 
-const char *image_read(const uint8_t *image, size_t many, struct osturdam_together *all)
+const char *image_read(const uint8_t *image, size_t many, struct kept *kept, struct image_order *order)
 {
     const char *wrong = damage(image, many);
     if (wrong)
         return wrong;
     uint64_t version = number_at(image + sizeof title, 2);
-    if (version != 1 && version != IMAGE_VERSION)
+    if (version < 1 || version > IMAGE_VERSION)
         return told("it is of version %u", (unsigned)version);
-    struct reading r = {.at = image + IMAGE_TITLE, .end = image + many - IMAGE_CHECK};
-    whole = *all;
-    memset(&whole.unit.config, 0, sizeof whole.unit.config);
+    struct reading r = {.at = image + IMAGE_TITLE, .end = image + many - IMAGE_CHECK, .order = order};
+    order->many = 0;
+    whole = *kept;
+    memset(&whole.all.unit.config, 0, sizeof whole.all.unit.config);
     wrong = version == 1 ? take_version_1(&r) : take_parts(&r);
     if (wrong)
         return wrong;
-    if (memcmp(whole.unit.layout, all->unit.layout, sizeof all->unit.layout) != 0)
-        return told("it is of a unit with the layout %u", osturdam_word_at(whole.unit.layout));
-    if (memcmp(&whole.unit.config, &all->unit.config, sizeof all->unit.config) != 0)
+    const struct osturdam_unit *is = &whole.all.unit, *expected = &kept->all.unit;
+    if (memcmp(is->layout, expected->layout, sizeof is->layout) != 0)
+        return told("it is of a unit with the layout %u", osturdam_word_at(is->layout));
+    if (memcmp(&is->config, &expected->config, sizeof is->config) != 0)
         return "it is of a unit with another configuration";
-    *all = whole;
+    *kept = whole;
     return NULL;
 }

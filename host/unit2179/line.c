@@ -5,7 +5,6 @@
 #include <fcntl.h>
 #include <netinet/in.h>
 #include <netinet/tcp.h>
-#include <poll.h>
 #include <stdio.h>
 #include <stdlib.h>
 #include <string.h>
@@ -15,7 +14,7 @@
 #include <unistd.h>
 
 #include "clock.h"
-#include "text.h"
+#include "say.h"
 
 enum { SEND_MS = 5000 }; /* a reply of 520 characters at 1200 baud takes 4,334 ms */
 
@@ -112,59 +111,96 @@ bool line_open_tcp(struct line *line, const char *address, uint16_t port)
     return true;
 }
 
-void line_accept(struct line *line)
+static struct channel *free_channel(struct line *line)
 {
-    int yes = 1;
-    int file = accept(line->listener, NULL, NULL);
-    if (file < 0)
-        return;
     for (size_t i = 0; i < CHANNELS; i++) {
-        if (line->channels[i].file >= 0)
-            continue;
-        fcntl(file, F_SETFL, O_NONBLOCK);
-        setsockopt(file, IPPROTO_TCP, TCP_NODELAY, &yes, sizeof yes);
-        line->channels[i] = (struct channel){.file = file};
-        return;
+        if (line->channels[i].file < 0)
+            return &line->channels[i];
     }
-    complain(&(struct place){line->name, 0}, "a connection was turned away: %d are open", CHANNELS);
-    close(file);
+    return NULL;
 }
 
-bool channel_read(struct channel *channel)
+bool line_is_full(const struct line *line)
+{
+    return !free_channel((struct line *)line);
+}
+
+/* A peer that has gone without a word is found in some 25 seconds, and what it has not read is not kept for it. */
+static void watch_peer(int file)
+{
+    const struct {
+        int level, name, value;
+    } options[] = {{IPPROTO_TCP, TCP_NODELAY, 1},     {SOL_SOCKET, SO_KEEPALIVE, 1}, {IPPROTO_TCP, TCP_KEEPIDLE, 10},
+                   {IPPROTO_TCP, TCP_KEEPINTVL, 5},   {IPPROTO_TCP, TCP_KEEPCNT, 3}, {IPPROTO_TCP, TCP_USER_TIMEOUT, 25000},
+                   {SOL_SOCKET, SO_SNDBUF, 8 * OSTURDAM_REPLY}};
+    for (size_t i = 0; i < sizeof options / sizeof *options; i++)
+        setsockopt(file, options[i].level, options[i].name, &options[i].value, sizeof options[i].value);
+}
+
+bool line_accept(struct line *line, int64_t now)
+{
+    int file = accept(line->listener, NULL, NULL);
+    struct channel *channel = free_channel(line);
+    if (file < 0)
+        return false;
+    if (!channel) {
+        close(file);
+        return true;
+    }
+    fcntl(file, F_SETFL, O_NONBLOCK);
+    fcntl(file, F_SETFD, FD_CLOEXEC);
+    watch_peer(file);
+    *channel = (struct channel){.file = file, .active = now};
+    return true;
+}
+
+void channel_read(struct channel *channel)
 {
     uint8_t come[1024];
     ssize_t many = read(channel->file, come, sizeof come);
-    if (many < 0)
-        return errno == EAGAIN || errno == EINTR;
-    if (many > 0)
-        stretch_take(&channel->stretch, come, (size_t)many, clock_now());
-    return many > 0;
+    if (many > 0) {
+        channel->active = clock_now();
+        stretch_take(&channel->coming, come, (size_t)many, channel->active);
+    } else if (many == 0 || (errno != EAGAIN && errno != EINTR)) {
+        channel->ended = true;
+    }
+}
+
+void channel_mark(struct channel *channel, int64_t mark)
+{
+    if (channel->marked.heard > 0)
+        return;
+    channel->marked = channel->coming;
+    channel->mark = mark;
+    channel->coming.heard = 0;
 }
 
 bool channel_waits(const struct channel *channel)
 {
     int many = 0;
-    return ioctl(channel->file, FIONREAD, &many) == 0 && many > 0;
+    return channel->coming.heard > 0 || channel->marked.heard > 0 || (ioctl(channel->file, FIONREAD, &many) == 0 && many > 0);
 }
 
-void channel_send(struct channel *channel, const uint8_t *reply, size_t many)
+bool channel_send(struct channel *channel, const uint8_t *reply, size_t many)
 {
-    int64_t until = clock_now() + (int64_t)SEND_MS * NS_OF_MS;
-    while (many > 0) {
-        ssize_t done = write(channel->file, reply, many);
-        if (done > 0) {
-            reply += done;
-            many -= (size_t)done;
-            continue;
-        }
-        struct pollfd room = {.fd = channel->file, .events = POLLOUT};
-        int64_t left = (until - clock_now()) / NS_OF_MS;
-        if ((done < 0 && errno != EAGAIN && errno != EINTR) || left <= 0) {
-            fprintf(stderr, "unit2179: %zu characters of a reply could not be sent\n", many);
-            return;
-        }
-        poll(&room, 1, (int)left);
+    if (channel->left > 0)
+        return false;
+    memcpy(channel->unsent, reply, many);
+    channel->left = many;
+    channel->until = clock_now() + (int64_t)SEND_MS * NS_OF_MS;
+    return channel_flush(channel);
+}
+
+bool channel_flush(struct channel *channel)
+{
+    ssize_t done = write(channel->file, channel->unsent, channel->left);
+    if (done < 0 && errno != EAGAIN && errno != EINTR)
+        return false;
+    if (done > 0) {
+        channel->left -= (size_t)done;
+        memmove(channel->unsent, channel->unsent + done, channel->left);
     }
+    return channel->left == 0 || clock_now() < channel->until;
 }
 
 void channel_close(struct channel *channel)

@@ -12,14 +12,21 @@
 enum { CHANNELS = 8, LINE_NAME = 256 };
 
 struct channel {
-    int file; /* -1: not in use */
-    struct stretch stretch;
+    int file;              /* -1: not in use */
+    bool ended;            /* nothing more comes from it */
+    struct stretch coming; /* since its latest idle mark */
+    struct stretch marked; /* up to that mark, and not yet heard */
+    int64_t mark;          /* when that was */
+    int64_t active;        /* when it was opened, or last brought something */
+    uint8_t unsent[OSTURDAM_REPLY];
+    size_t left;   /* characters at the end of a reply that could not be sent yet */
+    int64_t until; /* when they must have been */
 };
 
 struct line {
     char name[LINE_NAME];
-    int listener; /* of a TCP port, else -1 */
-    int held;     /* the other side of a pseudo-terminal, held so that it stands between two masters, else -1 */
+    int listener;       /* of a TCP port, else -1 */
+    int held;           /* the other side of a pseudo-terminal, held so that it stands between two masters, else -1 */
     struct channel channels[CHANNELS];
 };
 
@@ -31,17 +38,26 @@ bool line_open_tcp(struct line *line, const char *address, uint16_t port);
 /* Whether the line has this speed. */
 bool line_has_baud(uint32_t baud);
 
-/* Takes a new connection, or turns it away if all channels are in use. */
-void line_accept(struct line *line);
+/* Whether all channels are in use. */
+bool line_is_full(const struct line *line);
 
-/* Takes what a channel has brought. false: it has ended. */
-bool channel_read(struct channel *channel);
+/* Takes a new connection, or turns it away if all channels are in use. false: there is none, or errno tells why it cannot be taken. */
+bool line_accept(struct line *line, int64_t now);
 
-/* Whether characters have come that were not read. */
+/* Takes what a channel has brought, or that it has ended. */
+void channel_read(struct channel *channel);
+
+/* Ends the coming stretch by an idle mark, unless the one before it has not been heard. */
+void channel_mark(struct channel *channel, int64_t mark);
+
+/* Whether characters have come since the latest stretch that was heard. */
 bool channel_waits(const struct channel *channel);
 
-/* Sends a reply whole, or says on standard error that it could not. */
-void channel_send(struct channel *channel, const uint8_t *reply, size_t many);
+/* Begins to send a reply; what the line does not take at once goes by channel_flush. false: it cannot be sent. */
+bool channel_send(struct channel *channel, const uint8_t *reply, size_t many);
+
+/* Goes on sending. false: it cannot, or has not within its time. */
+bool channel_flush(struct channel *channel);
 
 void channel_close(struct channel *channel);
 

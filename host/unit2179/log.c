@@ -1,71 +1,126 @@
 #include "log.h"
 
 #include <errno.h>
+#include <fcntl.h>
+#include <stdarg.h>
 #include <stdio.h>
 #include <string.h>
+#include <sys/stat.h>
+#include <unistd.h>
 
-#include "text.h"
+#include "say.h"
+#include "stretch.h"
 
-static FILE *into;
+enum { LINE = 2 * STRETCH_KEPT + 2 * OSTURDAM_REPLY + 64 }; /* no line is longer than a whole stretch and a whole reply */
+
+static struct place at;
+static int into = -1;
+static bool failing; /* which was told */
+
+struct text {
+    char chars[LINE];
+    size_t many;
+};
 
 bool log_open(const char *path)
 {
-    /* whole lines, so that what was told stands there when the process is killed */
-    setvbuf(stdout, NULL, _IOLBF, 0);
     if (!path)
         return true;
-    into = strcmp(path, "-") == 0 ? stdout : fopen(path, "a");
-    if (!into) {
-        complain(&(struct place){path, 0}, "%s", strerror(errno));
-        return false;
-    }
-    setvbuf(into, NULL, _IOLBF, BUFSIZ);
-    return true;
+    at.name = strcmp(path, "-") == 0 ? "standard output" : path;
+    /* a FIFO need not have a reader yet: it is opened for both, so that this waits for none */
+    struct stat found;
+    bool fifo = stat(path, &found) == 0 && S_ISFIFO(found.st_mode);
+    into = strcmp(path, "-") == 0 ? STDOUT_FILENO : open(path, (fifo ? O_RDWR : O_WRONLY) | O_APPEND | O_CREAT | O_CLOEXEC, 0644);
+    if (into < 0)
+        complain(&at, "%s", strerror(errno));
+    return into >= 0;
 }
 
-static void put_hex(const uint8_t *chars, size_t many)
+static void add(struct text *t, const char *format, ...) __attribute__((format(printf, 2, 3)));
+
+static void add(struct text *t, const char *format, ...)
+{
+    va_list given;
+    va_start(given, format);
+    int more = vsnprintf(t->chars + t->many, LINE - t->many, format, given);
+    va_end(given);
+    t->many += more > 0 ? (size_t)more : 0;
+    t->many = t->many < LINE ? t->many : LINE - 1;
+}
+
+static void add_hex(struct text *t, const uint8_t *chars, size_t many)
 {
     for (size_t i = 0; i < many; i++)
-        fprintf(into, "%02X", chars[i]);
+        add(t, "%02X", chars[i]);
+}
+
+/* A line that is not written whole is told once; the next that is begins on a line of its own. */
+static void put(struct text *t)
+{
+    add(t, "\n");
+    if ((failing && !put_chars(into, "\n", 1)) || !put_chars(into, t->chars, t->many)) {
+        if (!failing)
+            complain(&at, "the log cannot be written, and goes on when it can: %s",
+                     errno == EAGAIN ? "nobody reads it" : strerror(errno));
+        failing = true;
+        return;
+    }
+    failing = false;
 }
 
 void log_time(uint32_t ms)
 {
-    if (into)
-        fprintf(into, "T\t%u\n", (unsigned)ms);
+    struct text t = {.many = 0};
+    if (into < 0)
+        return;
+    add(&t, "T\t%u", (unsigned)ms);
+    put(&t);
 }
 
 void log_stretch(const uint8_t *stretch, size_t heard, const struct osturdam_turned *turned, const uint8_t *reply)
 {
-    if (!into)
+    struct text t = {.many = 0};
+    if (into < 0)
         return;
-    fputs("R\t", into);
-    put_hex(stretch, heard);
-    fprintf(into, "\t%u\t", (unsigned)turned->outcome);
-    put_hex(reply, turned->sent);
-    fputs(turned->sent > 0 ? "\n" : "-\n", into);
+    add(&t, "R\t");
+    add_hex(&t, stretch, heard);
+    add(&t, "\t%u\t", (unsigned)turned->outcome);
+    add_hex(&t, reply, turned->sent);
+    add(&t, turned->sent > 0 ? "" : "-");
+    put(&t);
 }
 
 void log_unsent(const char *why)
 {
-    if (into)
-        fprintf(into, "L\t%s\n", why);
+    struct text t = {.many = 0};
+    if (into < 0)
+        return;
+    add(&t, "L\t%s", why);
+    put(&t);
 }
 
-void log_action(const struct osturdam_turned *turned)
+bool log_action(const struct osturdam_turned *turned)
 {
+    struct text told = {.many = 0}, t = {.many = 0};
     const char *what = turned->action == OSTURDAM_CLOSE ? "close" : "open";
-    printf("output %02Xh %s\n", turned->output, what);
-    if (into)
-        fprintf(into, "A\t%u\t%s\n", turned->output, what);
+    add(&told, "output %02Xh %s\n", turned->output, what);
+    bool good = put_chars(STDOUT_FILENO, told.chars, told.many);
+    int error = errno;
+    add(&t, "A\t%u\t%s", turned->output, what);
+    if (into >= 0 && good)
+        put(&t);
+    errno = error;
+    return good;
 }
 
 void log_event(const struct event *event, unsigned outcome)
 {
-    if (!into)
+    struct text t = {.many = 0};
+    if (into < 0)
         return;
-    fprintf(into, "E\t%s", event_kind(event));
+    add(&t, "E\t%s", event_kind(event));
     for (size_t i = 0; i < event->many; i++)
-        fprintf(into, "\t%u", (unsigned)event->figures[i]);
-    fprintf(into, "\t%u\n", outcome);
+        add(&t, "\t%u", (unsigned)event->figures[i]);
+    add(&t, "\t%u", outcome);
+    put(&t);
 }

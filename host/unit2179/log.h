@@ -6,7 +6,8 @@
  *   L  why the reply of the R before it was not sent
  *   A  output, open or close
  *   E  kind of local event, its figures, outcome
- * so that its T and R lines, without what came out, are lines of the bench program. */
+ * so that its T and R lines, without what came out, are lines of the bench program. A log that cannot be written is told once, and never
+ * stops the unit. */
 #ifndef UNIT2179_LOG_H
 #define UNIT2179_LOG_H
 
@@ -21,7 +22,9 @@ bool log_open(const char *path);
 void log_time(uint32_t ms);
 void log_stretch(const uint8_t *stretch, size_t heard, const struct osturdam_turned *turned, const uint8_t *reply);
 void log_unsent(const char *why);
-void log_action(const struct osturdam_turned *turned);
 void log_event(const struct event *event, unsigned outcome);
+
+/* Tells an output action. false: nobody can be told on standard output, and errno says why. */
+bool log_action(const struct osturdam_turned *turned);
 
 #endif

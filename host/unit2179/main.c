@@ -1,19 +1,46 @@
 /* unit2179: a remote unit of the Cooper 2179 serial protocol, live on a line. */
+#include <errno.h>
+#include <fcntl.h>
 #include <stdio.h>
 #include <stdlib.h>
+#include <string.h>
+#include <unistd.h>
 
 #include "clock.h"
 #include "config.h"
 #include "events.h"
-#include "log.h"
+#include "keeper.h"
 #include "line.h"
+#include "log.h"
 #include "options.h"
 #include "serve.h"
-#include "state.h"
 
 enum { EXIT_USAGE = 2, EXIT_CONFIG, EXIT_STATE, EXIT_LINE };
 
+enum { CONFIG_MOST = 65536, CONFIG_FAULTS = 32 };
+
 static struct osturdam_together all;
+static struct keeper keeper;
+static struct line line;
+
+/* Reads a configuration file; every line that is wrong is told. */
+static bool read_config(const char *path, struct osturdam_config *config)
+{
+    static char text[CONFIG_MOST + 1];
+    static struct config_fault faults[CONFIG_FAULTS];
+    int file = open(path, O_RDONLY | O_CLOEXEC);
+    long have = file < 0 ? -1 : read_whole(file, (uint8_t *)text, sizeof text);
+    if (have < 0 || have > CONFIG_MOST)
+        complain(&(struct place){path, 0}, "%s", have < 0 ? strerror(errno) : "is longer than 65,536 characters");
+    if (file >= 0)
+        close(file);
+    if (have < 0 || have > CONFIG_MOST)
+        return false;
+    size_t wrong = config_read(text, (size_t)have, config, faults, CONFIG_FAULTS);
+    for (size_t i = 0; i < wrong && i < CONFIG_FAULTS; i++)
+        complain(&(struct place){path, faults[i].line}, "%s", faults[i].what);
+    return wrong == 0;
+}
 
 /* A fresh unit of the configuration. */
 static bool configure(const struct options *o)
@@ -21,7 +48,7 @@ static bool configure(const struct options *o)
     static struct osturdam_config config;
     if (!o->config)
         config_bench(&config);
-    else if (!config_read(o->config, &config))
+    else if (!read_config(o->config, &config))
         return false;
     if (!osturdam_is_valid(&config)) {
         fprintf(stderr, "unit2179: no unit has this configuration\n");
@@ -32,39 +59,61 @@ static bool configure(const struct options *o)
     return true;
 }
 
-/* The unit as it was kept, where it was; *store stays NULL where nothing is to be kept. */
-static bool restore(const struct options *o, struct store **store)
+/* The unit as it was kept, where it was. */
+static bool restore(const struct options *o, struct store *store)
 {
     bool found = false;
     if (!o->state)
         return true;
-    *store = store_open(o->state);
-    if (!*store || (!o->fresh && !store_load(*store, &all, &found)))
+    keeper.kept.all = all;
+    if (!store_open(store, o->state) || (!o->fresh && !store_load(store, &keeper.kept, &found)))
         return false;
+    all = keeper.kept.all;
     fprintf(stderr, "unit2179: %s: %s\n", o->state, found ? "the kept state goes on" : "a fresh unit");
     return true;
 }
 
-static bool connect_line(const struct options *o, struct line *line)
+static bool connect_line(const struct options *o)
 {
     if (o->serial)
-        return line_open_serial(line, o->serial, o->baud);
-    return o->tcp ? line_open_tcp(line, o->address, o->port) : line_open_pty(line);
+        return line_open_serial(&line, o->serial, o->baud);
+    return o->tcp ? line_open_tcp(&line, o->address, o->port) : line_open_pty(&line);
 }
 
-static int ended(enum served served, const struct line *line)
+static int ended(enum served served)
 {
     if (served == SERVE_LINE_LOST)
-        fprintf(stderr, "unit2179: %s: the line has ended\n", line->name);
+        complain(&(struct place){line.name, 0}, "the line has ended");
     return served == SERVE_STOPPED ? EXIT_SUCCESS : served == SERVE_STATE_LOST ? EXIT_STATE : EXIT_LINE;
+}
+
+static int run(const struct options *o)
+{
+    static struct store store;
+    static struct events events;
+    if (!configure(o))
+        return EXIT_CONFIG;
+    if (!restore(o, &store))
+        return EXIT_STATE;
+    if (!log_open(o->log) || !events_open(&events, o->events))
+        return EXIT_FAILURE;
+    if (!connect_line(o))
+        return EXIT_LINE;
+    static struct server server;
+    server = (struct server){.all = &all, .lent = osturdam_lend(&all, &all.unit.config), .keeper = &keeper, .line = &line, .events = &events,
+                             .quiet = {(int64_t)o->gap * NS_OF_MS, (int64_t)o->suspension * NS_OF_MS},
+                             .within = (int64_t)o->reply_within * NS_OF_MS,
+                             .idle = (int64_t)o->idle * 1000 * NS_OF_MS};
+    if (!serve_begin(&server, o->state ? &store : NULL))
+        return EXIT_STATE;
+    printf("unit %u on %s\n", osturdam_number_of(&all.unit.config), line.name);
+    fflush(stdout);
+    return ended(serve(&server));
 }
 
 int main(int many, char **words)
 {
-    struct options options;
-    struct line line;
-    struct events events;
-    struct store *store = NULL;
+    static struct options options;
     if (!options_read(&options, many, words))
         return EXIT_USAGE;
     if (options.help) {
@@ -75,21 +124,5 @@ int main(int many, char **words)
         fprintf(stderr, "unit2179: it is linked with a library of another layout\n");
         return EXIT_FAILURE;
     }
-    if (!configure(&options))
-        return EXIT_CONFIG;
-    if (!restore(&options, &store))
-        return EXIT_STATE;
-    if (!log_open(options.log) || !events_open(&events, options.events))
-        return EXIT_FAILURE;
-    if (!connect_line(&options, &line))
-        return EXIT_LINE;
-    struct server server = {.all = &all, .lent = osturdam_lend(&all, &all.unit.config), .store = store, .line = &line, .events = &events,
-                            .quiet = {(int64_t)options.gap * NS_OF_MS, (int64_t)options.suspension * NS_OF_MS},
-                            .within = (int64_t)options.reply_within * NS_OF_MS};
-    if (!serve_begin(&server))
-        return EXIT_STATE;
-    printf("unit %u on %s\n", osturdam_number_of(&all.unit.config), line.name);
-    int status = ended(serve(&server), &line);
-    store_close(store);
-    return status;
+    return run(&options);
 }

@@ -8,9 +8,9 @@
 #include "line.h"
 #include "text.h"
 
-enum { LEAST_GAP = 20, LONGEST_WAIT = 10000 };
+enum { LEAST_GAP = 20, LONGEST_WAIT = 10000, LONGEST_IDLE = 1000000 };
 
-static const struct options defaults = {.baud = 9600, .suspension = 1000, .reply_within = 100, .address = "127.0.0.1"};
+static const struct options defaults = {.baud = 9600, .suspension = 1000, .reply_within = 100, .idle = 600, .address = "127.0.0.1"};
 
 static bool wrong(const char *option, const char *what)
 {
@@ -39,6 +39,7 @@ static uint32_t *number_option(struct options *o, const char *option)
            : strcmp(option, "--gap") == 0          ? &o->gap
            : strcmp(option, "--suspension") == 0   ? &o->suspension
            : strcmp(option, "--reply-within") == 0 ? &o->reply_within
+           : strcmp(option, "--idle") == 0         ? &o->idle
                                                    : NULL;
 }
 
@@ -82,6 +83,16 @@ static bool settled(struct options *o)
     return !o->tcp || split_address(o);
 }
 
+static bool take_number(const struct options *o, const char *option, const char *word, uint32_t *number)
+{
+    bool baud = number == &o->baud, idle = number == &o->idle;
+    if (number_of(word, baud ? 19200 : idle ? LONGEST_IDLE : LONGEST_WAIT, number) && *number > 0)
+        return true;
+    return wrong(option, baud   ? "is 1200, 2400, 4800, 9600 or 19200"
+                         : idle ? "takes seconds, 1 to 1000000"
+                                : "takes milliseconds, 1 to 10000");
+}
+
 bool options_read(struct options *o, int many, char **words)
 {
     *o = defaults;
@@ -97,8 +108,8 @@ bool options_read(struct options *o, int many, char **words)
             return wrong(words[i], "lacks what it takes");
         else if (text)
             *text = words[++i];
-        else if (!number_of(words[i + 1], number == &o->baud ? 19200 : LONGEST_WAIT, number) || *number == 0)
-            return wrong(words[i], number == &o->baud ? "is 1200, 2400, 4800, 9600 or 19200" : "takes milliseconds, 1 to 10000");
+        else if (!take_number(o, words[i], words[i + 1], number))
+            return false;
         else
             i++;
     }
@@ -113,8 +124,11 @@ static const char help[] =
     "The line, one of:\n"
     "  --pty                  a pseudo-terminal of its own (the default)\n"
     "  --serial DEVICE        a serial device or pseudo-terminal that exists: 8 bits, 1 stop bit, no parity\n"
-    "  --tcp [ADDRESS:]PORT   a TCP port (address 127.0.0.1; port 0: a free one). Up to 8 masters may be connected:\n"
-    "                         each connection has idle marks of its own and gets the replies to what it sent\n"
+    "  --tcp [ADDRESS:]PORT   a TCP port (address 127.0.0.1; port 0: a free one). Up to 8 masters may be connected, and\n"
+    "                         one more if another was quiet for a second, which then goes. Each connection has idle\n"
+    "                         marks of its own, gets the replies to what it sent, and has the master's number that\n"
+    "                         it sent first, as long as it is open: a second one with that number is closed\n"
+    "  --idle SECONDS         a connection that was quiet for so long is closed (600)\n"
     "  --baud RATE            of the serial device: 1200, 2400, 4800, 9600 (the default) or 19200\n"
     "  --gap MS               quiet time that is an idle mark; 3.5 characters at the baud rate, at least 20 ms\n"
     "  --suspension MS        quiet time that is an idle mark behind the header of a Set Time (1000)\n"
@@ -125,8 +139,9 @@ static const char help[] =
     "The unit:\n"
     "  --config FILE          what it is equipped with; without, the bench unit\n"
     "  --state FILE           keep its state there and begin with what is there; without, nothing is kept.\n"
-    "                         The state is on the disk before a reply is sent or an output acts. Time that the\n"
-    "                         process is down is not counted, and a select or a write does not outlive it\n"
+    "                         What changed is on the disk before a reply is sent or an output acts, in FILE.journal-a\n"
+    "                         or -b first and now and then in FILE. Time that the process is down is not counted, and a\n"
+    "                         select or a write does not outlive it\n"
     "  --fresh                begin with a fresh unit, whatever the state file has\n"
     "  --events FIFO          read local events there (made if it is missing), or from standard input (-)\n"
     "  --log FILE             append each event and what came out, - for standard output; fields parted by tabs:\n"
@@ -136,6 +151,19 @@ static const char help[] =
     "\n"
     "Standard output has the line's name, then a line for each output action. SIGTERM and SIGINT end it in order.\n"
     "\n";
+
+static void config_help(void)
+{
+    printf("Configuration lines (a number with an h behind it is hexadecimal, any other decimal; # begins a comment):\n"
+           "  unit NUMBER            0 to %Xh; the one line that must be there\n"
+           "  inputs LIST            equipped inputs, e.g. 30h 40h-43h; two-bit status 00-1Fh, status 30h-3Fh,\n"
+           "                         accumulators 40h-5Fh, analogs 80h-FFh\n"
+           "  outputs LIST           equipped control outputs, 00 to %Xh\n"
+           "  calculations LIST      equipped special calculations, 00 to %Xh\n"
+           "  file NUMBER VALUES     a history file, 0 to %d, whose records have 1 to %d values\n"
+           "  block LENGTH           characters of the parameter block, 0 to %d\n",
+           CONFIG_UNIT_MOST, CONFIG_NUMBER_MOST, OSTURDAM_CALCULATIONS - 1, OSTURDAM_FILES - 1, OSTURDAM_VALUES, OSTURDAM_BLOCK);
+}
 
 void options_help(void)
 {

@@ -12,6 +12,7 @@ struct options {
     uint32_t gap; /* milliseconds */
     uint32_t suspension;
     uint32_t reply_within;
+    uint32_t idle; /* seconds */
     char address[64]; /* of the TCP port */
     uint16_t port;
 };

@@ -1,174 +1,213 @@
 #include "serve.h"
 
 #include <errno.h>
+#include <fcntl.h>
 #include <poll.h>
 #include <signal.h>
-#include <stdio.h>
 #include <string.h>
+#include <sys/time.h>
 #include <unistd.h>
 
 #include "clock.h"
-#include "log.h"
+#include "guests.h"
+#include "turn.h"
 
 enum {
     KEEP_MS = 60000,                 /* the kept clock is never further behind */
+    END_MS = 700,                    /* from a signal to the end, at most */
     WAITED_MS = OSTURDAM_HOLD_MS + 1 /* longer than a select or a write waits */
 };
 
-enum { BELL, EVENTS, LISTENER, FIRST_CHANNEL, POLLED = FIRST_CHANNEL + CHANNELS };
+enum { BELL, EVENTS, LISTENER, KEEPER, FIRST_CHANNEL = KEEPER + KEEPER_FILES, POLLED = FIRST_CHANNEL + CHANNELS };
 
 static int bell[2]; /* a signal writes, the loop reads: so none is missed between two looks */
 
+/* Whatever the loop is doing, it has so long to end in order; what must last is kept at any moment. */
 static void ring(int signal)
 {
+    static const struct itimerval soon = {.it_value = {.tv_usec = END_MS * 1000}};
     int before = errno;
-    if (write(bell[1], &signal, 1) < 0)
+    if (write(bell[1], &signal, 1) < 0 || setitimer(ITIMER_REAL, &soon, NULL) != 0)
         errno = before;
 }
 
-static bool keep(struct server *s)
+static void end_at_once(int signal)
 {
-    s->kept = clock_now();
-    return !s->store || store_keep(s->store, s->all);
+    (void)signal;
+    _exit(0);
 }
 
-static void pass(struct server *s, uint32_t ms)
+static bool make_bell(void)
 {
-    if (ms == 0)
-        return;
-    osturdam_wait(&s->lent, ms);
-    log_time(ms);
-}
-
-static void pass_time(struct server *s)
-{
-    int64_t now = clock_now();
-    while (now - s->told >= NS_OF_MS)
-        pass(s, clock_passed(&s->told, now));
-}
-
-bool serve_begin(struct server *s)
-{
-    struct sigaction end = {.sa_handler = ring, .sa_flags = SA_RESTART};
+    struct sigaction end = {.sa_handler = ring, .sa_flags = SA_RESTART}, at_once = {.sa_handler = end_at_once};
     if (pipe(bell) != 0) {
-        perror("unit2179");
+        complain(&(struct place){"unit2179", 0}, "%s", strerror(errno));
         return false;
     }
     sigaction(SIGTERM, &end, NULL);
     sigaction(SIGINT, &end, NULL);
+    sigaction(SIGALRM, &at_once, NULL);
     signal(SIGPIPE, SIG_IGN);
-    s->told = clock_now();
-    /* nobody knows how long the unit was down, so no select and no write may outlive that */
+    return true;
+}
+
+bool serve_begin(struct server *s, struct store *store)
+{
     const struct osturdam_unit *unit = &s->all->unit;
+    if (!make_bell())
+        return false;
+    s->told = s->kept = clock_now();
+    /* nobody knows how long the unit was down, so no select and no write may outlive that */
     if (osturdam_kept_of(unit, OSTURDAM_SELECT) == OSTURDAM_HELD || osturdam_kept_of(unit, OSTURDAM_WRITE) == OSTURDAM_WAITS)
-        pass(s, WAITED_MS);
-    return keep(s);
-}
-
-/* Damage and frames for other units leave only the port's status behind them, which can wait for the next event. */
-static bool reached(enum osturdam_outcome outcome)
-{
-    return outcome != OSTURDAM_NOT_WHOLE && outcome != OSTURDAM_CHECK_WRONG && outcome != OSTURDAM_OTHER_UNIT;
-}
-
-/* A master that has given up on its request must not take the reply for the answer to its next one: why it is not sent, or NULL. */
-static const char *unsent(const struct server *s, const struct channel *channel, int64_t marked)
-{
-    if (clock_now() - marked > s->within)
-        return "late";
-    return channel_waits(channel) ? "new characters" : NULL;
-}
-
-static void send_reply(struct server *s, struct channel *channel, int64_t marked, const uint8_t *reply, size_t many)
-{
-    const char *why = unsent(s, channel, marked);
-    if (!why) {
-        channel_send(channel, reply, many);
-        return;
-    }
-    log_unsent(why);
-    complain(&(struct place){s->line->name, 0}, "a reply was not sent: %s",
-             strcmp(why, "late") == 0 ? "it was late" : "new characters had come");
-}
-
-/* An idle mark. What a reply tells or an action does is kept first: a master never holds a reply that the unit can forget. */
-static bool hear(struct server *s, struct channel *channel)
-{
-    uint8_t reply[OSTURDAM_REPLY];
-    struct stretch *stretch = &channel->stretch;
-    struct osturdam_heard heard = {.chars = stretch->chars, .count = stretch->heard, .buffer = reply, .room = sizeof reply};
-    struct osturdam_turned turned;
-    int64_t marked = stretch_due(stretch, &s->quiet);
-    pass_time(s);
-    osturdam_hear(&s->lent, &heard, &turned);
-    if (reached(turned.outcome) && !keep(s))
-        return false;
-    log_stretch(stretch->chars, stretch->heard, &turned, reply);
-    stretch->heard = 0;
-    if (turned.action != OSTURDAM_REST)
-        log_action(&turned);
-    if (turned.sent > 0)
-        send_reply(s, channel, marked, reply, turned.sent);
-    return true;
-}
-
-/* A local event is told as done once it is kept. */
-static bool take_event(void *context, const struct event *event)
-{
-    struct server *s = context;
-    pass_time(s);
-    unsigned outcome = event_apply(event, &s->lent);
-    if (!keep(s))
-        return false;
-    log_event(event, outcome);
-    if (outcome != OSTURDAM_DONE)
-        complain(&s->events->at, "%s", event_refusal(event, outcome));
-    return true;
+        turn_pass(s, WAITED_MS);
+    s->keeper->kept.all = *s->all;
+    return keeper_begin(s->keeper, store);
 }
 
 /* A mark is given only by a look that began after the gap and found no character: a late process never cuts a frame. */
+static void look_for_mark(struct server *s, struct channel *channel, short found, int64_t looked)
+{
+    if (channel->coming.heard == 0)
+        return;
+    int64_t due = stretch_due(&channel->coming, &s->quiet);
+    /* the characters before an end are a stretch */
+    if (channel->ended || (!(found & POLLIN) && looked >= due))
+        channel_mark(channel, channel->ended ? looked : due);
+}
+
+/* Whether a channel has ended and all of it is heard and answered. */
+static bool is_over(const struct server *s, const struct channel *channel)
+{
+    return channel->ended && channel->coming.heard == 0 && channel->marked.heard == 0 && channel->left == 0 &&
+           s->answer.channel != channel;
+}
+
 static enum served look_at(struct server *s, struct channel *channel, short found, int64_t looked)
 {
-    if (found == 0) {
-        bool idle = channel->stretch.heard > 0 && looked >= stretch_due(&channel->stretch, &s->quiet);
-        return !idle || hear(s, channel) ? SERVE_GOES_ON : SERVE_STATE_LOST;
+    if (!channel->ended && (found & ~POLLOUT))
+        channel_read(channel);
+    look_for_mark(s, channel, found, looked);
+    if (channel->left > 0 && ((found & POLLOUT) || looked >= channel->until) && !channel_flush(channel)) {
+        complain(&(struct place){s->line->name, 0}, "%zu characters of a reply could not be sent", channel->left);
+        channel->left = 0;
+        channel->ended = channel->ended || s->line->listener >= 0;
     }
-    if (channel_read(channel))
+    /* a connection that only stopped sending gets its reply first */
+    if (!is_over(s, channel))
         return SERVE_GOES_ON;
-    /* the characters before an end are a stretch, and a connection that only stopped sending gets its reply */
-    if (channel->stretch.heard > 0 && !hear(s, channel))
-        return SERVE_STATE_LOST;
-    channel_close(channel);
+    guests_forget(s, channel);
     return s->line->listener >= 0 ? SERVE_GOES_ON : SERVE_LINE_LOST;
 }
 
-/* Milliseconds until the next thing that comes by itself. */
-static int wait_from(const struct server *s, int64_t now)
+/* When a channel has something that comes by itself, if that is before another time. */
+static int64_t due_of(const struct server *s, const struct channel *channel, int64_t due)
 {
-    int64_t due = s->kept + (int64_t)KEEP_MS * NS_OF_MS;
-    for (size_t i = 0; i < CHANNELS; i++) {
-        const struct channel *channel = &s->line->channels[i];
-        if (channel->file < 0 || channel->stretch.heard == 0)
-            continue;
-        int64_t idle = stretch_due(&channel->stretch, &s->quiet);
+    if (is_over(s, channel))
+        return 0;
+    if (channel->coming.heard > 0 && channel->marked.heard == 0) {
+        int64_t idle = stretch_due(&channel->coming, &s->quiet);
         due = idle < due ? idle : due;
+    }
+    due = guests_due(s, channel) < due ? guests_due(s, channel) : due;
+    return channel->left > 0 && channel->until < due ? channel->until : due;
+}
+
+/* The next channel with a stretch to hear, in turn, or NULL. */
+static struct channel *next_marked(struct server *s)
+{
+    for (size_t i = 0; i < CHANNELS; i++) {
+        struct channel *channel = &s->line->channels[(s->next + i) % CHANNELS];
+        if (channel->file >= 0 && channel->marked.heard > 0)
+            return channel;
+    }
+    return NULL;
+}
+
+/* Milliseconds until the next thing that comes by itself. */
+static int wait_from(struct server *s, int64_t now)
+{
+    int64_t due = (s->waits == NOTHING_WAITS ? s->kept : now) + (int64_t)KEEP_MS * NS_OF_MS;
+    if (s->waits == NOTHING_WAITS && (next_marked(s) || events_ready(s->events)))
+        return 0;
+    if (s->deaf > now && s->deaf < due)
+        due = s->deaf;
+    for (size_t i = 0; i < CHANNELS; i++) {
+        if (s->line->channels[i].file >= 0)
+            due = due_of(s, &s->line->channels[i], due);
     }
     return due <= now ? 0 : (int)((due - now + NS_OF_MS - 1) / NS_OF_MS);
 }
 
-static void list(const struct server *s, struct pollfd polled[POLLED])
+static void list(const struct server *s, struct pollfd polled[POLLED], int64_t now)
 {
+    int files[KEEPER_FILES];
+    keeper_files(s->keeper, files);
     polled[BELL] = (struct pollfd){.fd = bell[0], .events = POLLIN};
-    polled[EVENTS] = (struct pollfd){.fd = s->events->file, .events = POLLIN};
-    polled[LISTENER] = (struct pollfd){.fd = s->line->listener, .events = POLLIN};
-    for (size_t i = 0; i < CHANNELS; i++)
-        polled[FIRST_CHANNEL + i] = (struct pollfd){.fd = s->line->channels[i].file, .events = POLLIN};
+    polled[EVENTS] = (struct pollfd){.fd = events_ready(s->events) ? -1 : s->events->file, .events = POLLIN};
+    polled[LISTENER] = (struct pollfd){.fd = now < s->deaf ? -1 : s->line->listener, .events = POLLIN};
+    for (size_t i = 0; i < KEEPER_FILES; i++)
+        polled[KEEPER + i] = (struct pollfd){.fd = files[i], .events = POLLIN};
+    for (size_t i = 0; i < CHANNELS; i++) {
+        const struct channel *c = &s->line->channels[i];
+        short wanted = (short)((c->ended ? 0 : POLLIN) | (c->left > 0 ? POLLOUT : 0));
+        polled[FIRST_CHANNEL + i] = (struct pollfd){.fd = wanted ? c->file : -1, .events = wanted};
+    }
 }
 
-static enum served keep_time(struct server *s)
+/* Waits for what is listed and in use: the system takes no more entries than a process may have files. */
+static bool wait_for(struct pollfd polled[POLLED], int ms)
 {
-    pass_time(s);
-    return keep(s) ? SERVE_GOES_ON : SERVE_STATE_LOST;
+    struct pollfd used[POLLED];
+    nfds_t many = 0;
+    for (size_t i = 0; i < POLLED; i++) {
+        if (polled[i].fd >= 0)
+            used[many++] = polled[i];
+    }
+    if (poll(used, many, ms) < 0)
+        return false;
+    for (size_t i = POLLED; i-- > 0;)
+        polled[i].revents = polled[i].fd >= 0 ? used[--many].revents : 0;
+    return true;
+}
+
+/* The line and local events take turns. */
+static enum served take_turn(struct server *s)
+{
+    struct event event;
+    struct channel *channel = next_marked(s);
+    bool ready = events_ready(s->events);
+    if (s->waits != NOTHING_WAITS || (!channel && !ready))
+        return SERVE_GOES_ON;
+    s->heard = channel && (!ready || !s->heard);
+    if (s->heard) {
+        s->next = (size_t)(channel - s->line->channels) + 1;
+        return guests_refused(s, channel) ? SERVE_GOES_ON : turn_hear(s, channel);
+    }
+    return events_next(s->events, &event) ? turn_take(s, &event) : SERVE_GOES_ON;
+}
+
+static enum served look_at_channels(struct server *s, const struct pollfd polled[POLLED], int64_t looked)
+{
+    enum served served = SERVE_GOES_ON;
+    for (size_t i = 0; i < CHANNELS && served == SERVE_GOES_ON; i++) {
+        if (s->line->channels[i].file >= 0)
+            served = look_at(s, &s->line->channels[i], polled[FIRST_CHANNEL + i].revents, looked);
+    }
+    return served;
+}
+
+static enum served look_at_keeper(struct server *s, int64_t looked)
+{
+    enum keeping keeping = keeper_look(s->keeper, looked);
+    if (keeping == KEEPER_LOST)
+        return SERVE_STATE_LOST;
+    return keeping == KEEPER_KEPT && s->waits != NOTHING_WAITS ? turn_end(s) : SERVE_GOES_ON;
+}
+
+static enum served end(struct server *s)
+{
+    turn_pass_time(s);
+    return keeper_end(s->keeper, s->all) ? SERVE_STOPPED : SERVE_STATE_LOST;
 }
 
 /* One look at everything, which waits until there is something to see. */
@@ -176,23 +215,27 @@ static enum served look(struct server *s)
 {
     struct pollfd polled[POLLED];
     int64_t looked = clock_now();
-    list(s, polled);
-    if (poll(polled, POLLED, wait_from(s, looked)) < 0)
+    list(s, polled, looked);
+    if (!wait_for(polled, wait_from(s, looked)))
         return SERVE_GOES_ON;
-    for (size_t i = 0; i < CHANNELS; i++) {
-        if (polled[FIRST_CHANNEL + i].fd < 0)
-            continue;
-        enum served served = look_at(s, &s->line->channels[i], polled[FIRST_CHANNEL + i].revents, looked);
-        if (served != SERVE_GOES_ON)
-            return served;
-    }
-    if (polled[EVENTS].revents && !events_read(s->events, take_event, s))
-        return SERVE_STATE_LOST;
+    enum served served = look_at_channels(s, polled, looked);
+    int64_t now = clock_now();
+    if (served == SERVE_GOES_ON)
+        served = look_at_keeper(s, now);
+    if (polled[EVENTS].revents)
+        events_read(s->events);
+    if (served == SERVE_GOES_ON)
+        served = take_turn(s);
+    if (served != SERVE_GOES_ON)
+        return served;
+    guests_look(s, now);
     if (polled[LISTENER].revents)
-        line_accept(s->line);
+        guests_accept(s, now);
     if (polled[BELL].revents)
-        return keep_time(s) == SERVE_GOES_ON ? SERVE_STOPPED : SERVE_STATE_LOST;
-    return looked - s->kept >= (int64_t)KEEP_MS * NS_OF_MS ? keep_time(s) : SERVE_GOES_ON;
+        return end(s);
+    if (s->waits == NOTHING_WAITS && now - s->kept >= (int64_t)KEEP_MS * NS_OF_MS)
+        turn_keep_time(s);
+    return SERVE_GOES_ON;
 }
 
 enum served serve(struct server *s)

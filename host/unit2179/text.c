@@ -1,31 +1,19 @@
 #include "text.h"
 
-#include <stdarg.h>
-#include <stdio.h>
 #include <string.h>
-
-void complain(const struct place *at, const char *format, ...)
-{
-    va_list given;
-    va_start(given, format);
-    if (at->line > 0)
-        fprintf(stderr, "%s:%u: ", at->name, at->line);
-    else
-        fprintf(stderr, "%s: ", at->name);
-    vfprintf(stderr, format, given);
-    fputc('\n', stderr);
-    va_end(given);
-}
 
 size_t words_of(char *line, char *words[TEXT_WORDS])
 {
     static const char blanks[] = " \t\r\n";
     size_t many = 0;
     line[strcspn(line, "#")] = '\0';
-    for (char *word = strtok(line, blanks); word; word = strtok(NULL, blanks)) {
+    for (char *word = line + strspn(line, blanks); *word; word += strspn(word, blanks)) {
         if (many < TEXT_WORDS)
             words[many] = word;
         many++;
+        word += strcspn(word, blanks);
+        if (*word)
+            *word++ = '\0';
     }
     return many;
 }

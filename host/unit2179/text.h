@@ -1,4 +1,4 @@
-/* Lines of plain text: their words, their numbers, and complaints that name the line. */
+/* Lines of plain text: their words and their numbers. No input or output, and no heap. */
 #ifndef UNIT2179_TEXT_H
 #define UNIT2179_TEXT_H
 
@@ -7,14 +7,6 @@
 #include <stdint.h>
 
 enum { TEXT_WORDS = 64 }; /* words that are told apart in a line; a list goes on in a second line */
-
-struct place {
-    const char *name; /* of the file */
-    unsigned line;    /* 0: the file as a whole */
-};
-
-/* Prints `name:line: message` on standard error. */
-void complain(const struct place *at, const char *format, ...) __attribute__((format(printf, 2, 3)));
 
 /* Parts a line at its blanks, up to a #. Answers how many words there are, of which at most TEXT_WORDS are told. */
 size_t words_of(char *line, char *words[TEXT_WORDS]);

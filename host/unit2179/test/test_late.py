@@ -6,7 +6,7 @@ from live import A, SAMPLE, UNIT, LiveTest, frame, until
 from master import Master
 
 LOAD = 7  # a file of one value a record
-SCAN, INITIALISE = frame(A, UNIT, 0x00, 0x01), frame(A, UNIT, 0x20, 0x00)
+SCAN, SET_TIME = frame(A, UNIT, 0x00, 0x01), frame(A, UNIT, 0x20, 0x38, bytes([3, 0x66, 0x23, 0, 0, 0, 0]))
 
 
 class Late(LiveTest):
@@ -45,13 +45,13 @@ class Late(LiveTest):
 
     def test_a_reply_that_is_late_is_not_sent(self):
         unit, wire = self.begin('--reply-within', '300')
-        self.assertTrue(wire.ask(INITIALISE))
+        self.assertTrue(wire.ask(SET_TIME))
         self.disk('sync 600')
-        self.assertIsNone(wire.ask(INITIALISE, 1.5))
+        self.assertIsNone(wire.ask(SET_TIME, 1.5))
         self.assertIn('late', unit.errors())
         self.assertEqual(len(unit.log('L')), 1, 'the log tells that it was not sent')
         self.disk('sync 100')
-        self.assertTrue(wire.ask(INITIALISE))
+        self.assertTrue(wire.ask(SET_TIME))
 
     def test_a_reply_is_not_sent_once_new_characters_have_come(self):
         self.unanswered(*self.begin('--reply-within', '10000'))
@@ -63,7 +63,7 @@ class Late(LiveTest):
 
     def unanswered(self, unit, wire):
         self.disk('sync 500')
-        wire.send(INITIALISE)
+        wire.send(SET_TIME)
         time.sleep(0.25)
         wire.send(SCAN)
         reply = wire.receive(5)

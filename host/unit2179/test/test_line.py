@@ -124,15 +124,34 @@ class Connections(LiveTest):
         self.assertEqual(wire.receive(3).port, FINE)
         self.assertEqual(wire.socket.recv(1), b'')
 
-    def test_more_connections_than_there_are_channels(self):
+    def test_the_room_of_one_that_has_gone_is_used_again(self):
         unit = self.unit('--tcp', '0')
-        wires = [self.wire(unit.name) for _ in range(9)]
-        self.assertEqual(wires[8].socket.recv(1), b'', 'the ninth is turned away')
-        for wire in wires[:8]:
-            self.assertTrue(wire.ask(POLL))
+        wires = [self.wire(unit.name) for _ in range(8)]
+        for number, wire in enumerate(wires):
+            self.assertTrue(wire.ask(frame(number, UNIT, 0x00, 0x41)))
         wires[0].socket.shutdown(socket.SHUT_WR)
         self.assertEqual(wires[0].socket.recv(1), b'')
-        self.assertTrue(self.wire(unit.name).ask(POLL), 'the room of one that has gone is used again')
+        self.assertTrue(self.wire(unit.name).ask(frame(0, UNIT, 0x00, 0x41)))
+        self.assertNotIn('connection', unit.errors())
+
+    def test_a_masters_number_belongs_to_one_connection(self):
+        unit = self.unit('--tcp', '0', '--config', SAMPLE, '--events', 'events')
+        self.tell('events', *(f'record 7 1 {value}' for value in (1, 2, 3)))
+        until(lambda: len(unit.log('E')) == 3)
+        request, damaged = frame(A, UNIT, 0x04, 0x47), frame(A, UNIT, 0x04, 0x46)[:-1] + b'\0'
+        first, second = self.wire(unit.name), self.wire(unit.name)
+        self.assertEqual(first.ask(request).data[7:], b'\1\0')
+        second.send(damaged)
+        until(lambda: len(unit.log('R')) == 2)
+        self.assertTrue(second.ask(frame(B, UNIT, 0x00, 0x41)), 'damage that looks like the first one closes nothing')
+        second.send(request)
+        second.socket.settimeout(5)
+        self.assertEqual(second.socket.recv(1), b'', 'it takes no acknowledgement of the first one')
+        self.assertIn('a second connection sends as master 1', unit.errors())
+        self.assertEqual([first.ask(request).data[7:] for _ in range(2)], [b'\2\0', b'\3\0'])
+        first.socket.shutdown(socket.SHUT_WR)
+        self.assertEqual(first.socket.recv(1), b'')
+        self.assertEqual(self.wire(unit.name).ask(request).data, b'\0', 'the number is free once its connection is closed')
 
     def test_every_character_passes_both_ways(self):
         wire = self.wire(self.unit().name)

@@ -32,7 +32,7 @@ def parts_of(image):
     return found
 
 
-def image_of(parts, version=2):
+def image_of(parts, version=3):
     """A state file of parts, with the length and the check that it should have."""
     body = b''.join(name.encode().ljust(NAME, b'\0') + len(chars).to_bytes(4, 'little') + chars for name, chars in parts)
     image = b'unit2179' + version.to_bytes(2, 'little') + (TITLE + len(body) + CHECK).to_bytes(4, 'little') + body
@@ -57,7 +57,7 @@ class KeptTest(LiveTest):
         status, said = self.refused('--config', SAMPLE, '--state', 'state')
         self.assertEqual((status, said.startswith('state: ')), (4, True), said)
         self.assertIn(why, said)
-        self.assertEqual(self.state(), wrong, 'it is left as it is')
+        self.assertTrue(self.state() == wrong, 'it is left as it is')
 
 
 class Kept(KeptTest):
@@ -101,7 +101,7 @@ class Kept(KeptTest):
         self.begin()[0].end()
         good = self.state()
         for wrong, why in ((good[:-1], 'not whole'), (good + b'\0', 'not whole'), (b'', 'not whole'), (good[:500] + b'\1' + good[501:], 'damaged'),
-                           (b'U' + good[1:], 'no state file'), (image_of(parts_of(good), 3), 'version 3')):
+                           (b'U' + good[1:], 'no state file'), (image_of(parts_of(good), 4), 'version 4')):
             with self.subTest(why):
                 self.refused_for(wrong, why)
         unit, wire = self.begin('--fresh')
@@ -121,20 +121,14 @@ class Kept(KeptTest):
         self.assertIn('another process', said)
         self.assertTrue(wire.ask(SCAN))
 
-    def test_what_cannot_be_kept_is_not_answered(self):
-        unit, wire = self.begin()
-        os.mkdir(self.path('state.new'))
-        self.assertEqual(wire.ask(SCAN, seconds=5), None)
-        self.assertEqual(unit.process.wait(10), 4)
-        self.assertIn('cannot be kept', unit.errors())
-
     def test_the_file_is_replaced_and_never_written_over(self):
         unit, wire = self.begin()
         before = self.state()
         with open(self.path('state'), 'rb') as old:
-            self.assertTrue(wire.ask(frame(A, UNIT, 0x20, 0x00)))
+            self.assertTrue(wire.ask(SELECT))
+            unit.end()
             self.assertEqual(old.read(), before)
-        self.assertNotEqual(self.state(), before)
+        self.assertTrue(self.state() != before)
         self.assertFalse(os.path.exists(self.path('state.new')))
 
     def test_a_half_written_file_is_no_hindrance(self):
@@ -159,7 +153,7 @@ class Parts(KeptTest):
 
     def test_they_are_named_and_a_file_of_them_in_any_order_is_read(self):
         parts = self.kept()
-        self.assertEqual(image_of(parts), self.state())
+        self.assertTrue(image_of(parts) == self.state())
         self.assertEqual({name for name, _ in parts if name.startswith('config.')},
                          {'config.' + name for name in ('number', 'length', 'inputs', 'outputs', 'calculations', 'files', 'values')})
         self.assertEqual({name for name, _ in parts if '.' not in name}, {'layout', 'numbers', 'words', 'results', 'fixed', 'counts', 'block', 'records'})
@@ -233,12 +227,26 @@ class Older(KeptTest):
         self.assertEqual(wire.ask(frame(A, UNIT, 0x28, 0x30, bytes([0, 0, 6, 64]))).data, b'block' + bytes(58) + b'!')
         self.assertEqual(wire.ask(frame(A, UNIT, 0x28, 0x30, bytes([0xF0, 0, 0x0B, 16]))).data, bytes(range(16)))
         unit.end()
-        self.assertEqual(image_of(parts_of(self.state())), self.state())
+        self.assertTrue(image_of(parts_of(self.state())) == self.state())
+
+    def test_a_file_of_version_2_is_read(self):
+        unit, wire = self.begin()
+        self.tell('events', 'word 30h 1234h', 'record 2 9 1 2 3')
+        until(lambda: len(unit.log('E')) == 2)
+        unit.end()
+        parts = [part for part in parts_of(self.state()) if not part[0].startswith('journal.')]
+        for name in os.listdir(self.folder):
+            if name.startswith('state.'):
+                os.remove(self.path(name))
+        self.put_state(image_of(parts, 2))
+        unit, wire = self.begin()
+        self.assertEqual(wire.ask(SCAN).data, b'\x34\x12\0\0')
+        self.assertEqual(wire.ask(frame(A, UNIT, 0x04, 0x42)).data[0], 1)
 
     def test_it_is_refused_where_it_cannot_be_true(self):
         self.refused_for(self.old[:700] + b'\1' + self.old[701:], 'damaged')
         self.refused_for(self.old[:-1], 'not whole')
-        for version in (0, 2, 3):
+        for version in (0, 2, 3, 4):
             other = self.old[:8] + bytes([version]) + self.old[9:-CHECK]
             self.refused_for(other + fnv(other), 'cannot be used')
         for many in (len(self.old) - 40, len(self.old) + 40):

@@ -1,0 +1,19 @@
+/* What is said on standard error. It never stops the unit: where nobody reads it, it is lost. */
+#ifndef UNIT2179_SAY_H
+#define UNIT2179_SAY_H
+
+#include <stdbool.h>
+#include <stddef.h>
+
+struct place {
+    const char *name; /* of the file or line */
+    unsigned line;    /* 0: as a whole */
+};
+
+/* Says `name:line: message`. */
+void complain(const struct place *at, const char *format, ...) __attribute__((format(printf, 2, 3)));
+
+/* Writes characters into a file without waiting for a reader. false: not all of them, and errno tells why. */
+bool put_chars(int file, const char *chars, size_t many);
+
+#endif
