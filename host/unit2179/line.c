@@ -8,6 +8,7 @@
 #include <stdio.h>
 #include <stdlib.h>
 #include <string.h>
+#include <sys/file.h>
 #include <sys/ioctl.h>
 #include <sys/socket.h>
 #include <termios.h>
@@ -65,12 +66,20 @@ static bool make_raw(int file, speed_t speed)
     return cfsetispeed(&t, speed) == 0 && cfsetospeed(&t, speed) == 0 && tcsetattr(file, TCSANOW, &t) == 0;
 }
 
+/* Two programs on one device would each hear a part: programs that lock it are kept out by that, others by the device itself. */
+static bool take_alone(int file)
+{
+    return flock(file, LOCK_EX | LOCK_NB) == 0 && (!isatty(file) || ioctl(file, TIOCEXCL) == 0);
+}
+
 bool line_open_serial(struct line *line, const char *device, uint32_t baud)
 {
     line_empty(line, device);
     int file = open(device, O_RDWR | O_NOCTTY | O_NONBLOCK | O_CLOEXEC);
     if (file < 0)
         return failed(device, "cannot be opened");
+    if (!take_alone(file))
+        return failed(device, "another program has it");
     if (!make_raw(file, speeds[speed_of(baud)].speed))
         return failed(device, "is no serial device");
     tcflush(file, TCIFLUSH); /* what was sent before the unit was there is not heard */

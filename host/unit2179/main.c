@@ -1,6 +1,7 @@
 /* unit2179: a remote unit of the Cooper 2179 serial protocol, live on a line. */
 #include <errno.h>
 #include <fcntl.h>
+#include <signal.h>
 #include <stdio.h>
 #include <stdlib.h>
 #include <string.h>
@@ -15,7 +16,7 @@
 #include "options.h"
 #include "serve.h"
 
-enum { EXIT_USAGE = 2, EXIT_CONFIG, EXIT_STATE, EXIT_LINE };
+enum { EXIT_USAGE = 2, EXIT_CONFIG, EXIT_STATE, EXIT_LINE, EXIT_OUTPUT };
 
 enum { CONFIG_MOST = 65536, CONFIG_FAULTS = 32 };
 
@@ -84,7 +85,10 @@ static int ended(enum served served)
 {
     if (served == SERVE_LINE_LOST)
         complain(&(struct place){line.name, 0}, "the line has ended");
-    return served == SERVE_STOPPED ? EXIT_SUCCESS : served == SERVE_STATE_LOST ? EXIT_STATE : EXIT_LINE;
+    return served == SERVE_STOPPED       ? EXIT_SUCCESS
+           : served == SERVE_STATE_LOST  ? EXIT_STATE
+           : served == SERVE_OUTPUT_LOST ? EXIT_OUTPUT
+                                         : EXIT_LINE;
 }
 
 static int run(const struct options *o)
@@ -111,9 +115,22 @@ static int run(const struct options *o)
     return ended(serve(&server));
 }
 
+/* No file or line that is opened later may become standard output or error. What is put in the place of one that is closed cannot be
+ * written: so an action that is told there is not lost silently. */
+static bool standard_files(void)
+{
+    int file = open("/dev/null", O_RDONLY);
+    while (file >= 0 && file <= STDERR_FILENO)
+        file = open("/dev/null", O_RDONLY);
+    return file >= 0 && close(file) == 0;
+}
+
 int main(int many, char **words)
 {
     static struct options options;
+    if (!standard_files())
+        return EXIT_FAILURE;
+    signal(SIGXFSZ, SIG_IGN); /* a limit of a file's size is an error like a full disk */
     if (!options_read(&options, many, words))
         return EXIT_USAGE;
     if (options.help) {

@@ -172,5 +172,6 @@ void options_help(void)
     putchar('\n');
     events_help();
     putchar('\n');
-    puts("Exit status: 0 ended in order, 1 log or events not to be had, 2 command line, 3 configuration, 4 state, 5 line.");
+    puts("Exit status: 0 ended in order, 1 log or events not to be had, 2 command line, 3 configuration, 4 state, 5 line,\n"
+         "6 an output action could not be told.");
 }

@@ -43,12 +43,12 @@ struct server {
     bool deaf_told;
 };
 
-enum served { SERVE_GOES_ON, SERVE_STOPPED, SERVE_STATE_LOST, SERVE_LINE_LOST };
+enum served { SERVE_GOES_ON, SERVE_STOPPED, SERVE_STATE_LOST, SERVE_LINE_LOST, SERVE_OUTPUT_LOST };
 
 /* Makes ready a unit that is fresh or was read back. false: its state cannot be kept, which was told. */
 bool serve_begin(struct server *server, struct store *store);
 
-/* Serves until a signal ends it, the state cannot be kept or the line is lost. */
+/* Serves until a signal ends it, the state cannot be kept, the line is lost or an output action cannot be told. */
 enum served serve(struct server *server);
 
 #endif

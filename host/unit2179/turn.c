@@ -1,5 +1,6 @@
 #include "turn.h"
 
+#include <errno.h>
 #include <string.h>
 
 #include "clock.h"
@@ -112,8 +113,12 @@ static enum served end_stretch(struct server *s)
 {
     const struct answer *a = &s->answer;
     log_stretch(a->heard.chars, a->heard.heard, &a->turned, a->reply);
-    if (a->turned.action != OSTURDAM_REST)
-        log_action(&a->turned);
+    /* an action that nobody was told of did not happen, and is not answered as done */
+    if (a->turned.action != OSTURDAM_REST && !log_action(&a->turned)) {
+        complain(&(struct place){"standard output", 0}, "an action of output %02Xh cannot be told: %s", a->turned.output,
+                 errno == EAGAIN ? "nobody reads it" : strerror(errno));
+        return SERVE_OUTPUT_LOST;
+    }
     if (a->turned.sent > 0)
         send_reply(s);
     s->answer.channel = NULL;

@@ -1,4 +1,5 @@
 """A live unit in a process of its own, for tests."""
+import fcntl
 import os
 import select
 import shutil
@@ -6,6 +7,7 @@ import signal
 import subprocess
 import sys
 import tempfile
+import termios
 import time
 import tty
 import unittest
@@ -76,6 +78,7 @@ class LiveTest(unittest.TestCase):
     def setUp(self):
         self.folder = tempfile.mkdtemp(prefix='unit2179-', dir=MEMORY if os.access(MEMORY, os.W_OK) else None)
         self.addCleanup(shutil.rmtree, self.folder)
+        self.held = []  # devices that are open here
 
     def path(self, name):
         return os.path.join(self.folder, name)
@@ -92,6 +95,8 @@ class LiveTest(unittest.TestCase):
         return self.unit_as_is(*options, **how)
 
     def unit_as_is(self, *options, **how):
+        for device in self.held:  # a unit that was killed leaves its device to itself, since it stays open here
+            fcntl.ioctl(device, termios.TIOCNXCL)
         unit = Unit(self.folder, *options, **how)
         self.addCleanup(unit.end, signal.SIGKILL)
         return unit
@@ -116,6 +121,7 @@ class LiveTest(unittest.TestCase):
         tty.setraw(units)
         self.addCleanup(os.close, masters)
         self.addCleanup(os.close, units)
+        self.held.append(units)
         return self.wire(masters), os.ttyname(units)
 
     def tell(self, fifo, *lines):
