@@ -108,7 +108,9 @@ static int run(const struct options *o)
                              .quiet = {(int64_t)o->gap * NS_OF_MS, (int64_t)o->suspension * NS_OF_MS},
                              .within = (int64_t)o->reply_within * NS_OF_MS,
                              .idle = (int64_t)o->idle * 1000 * NS_OF_MS};
-    if (!serve_begin(&server, o->state ? &store : NULL))
+    struct day_time host = clock_host(o->zone);
+    bool set = o->clock && strcmp(o->clock, "system") == 0;
+    if (!serve_begin(&server, o->state ? &store : NULL, set ? &host : NULL))
         return EXIT_STATE;
     printf("unit %u on %s\n", osturdam_number_of(&all.unit.config), line.name);
     fflush(stdout);

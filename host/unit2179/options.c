@@ -3,6 +3,7 @@
 #include <stdio.h>
 #include <string.h>
 
+#include "clock.h"
 #include "config.h"
 #include "events.h"
 #include "line.h"
@@ -25,7 +26,8 @@ static const char **text_of(struct options *o, const char *option)
         const char *option;
         const char **text;
     } texts[] = {{"--config", &o->config}, {"--serial", &o->serial}, {"--tcp", &o->tcp},
-                 {"--events", &o->events}, {"--state", &o->state},   {"--log", &o->log}};
+                 {"--events", &o->events}, {"--state", &o->state},   {"--log", &o->log},
+                 {"--clock", &o->clock},   {"--zone", &o->zone}};
     for (size_t i = 0; i < sizeof texts / sizeof *texts; i++) {
         if (strcmp(option, texts[i].option) == 0)
             return texts[i].text;
@@ -76,6 +78,12 @@ static bool settled(struct options *o)
         return wrong("--serial, --pty and --tcp", "do not go together");
     if (o->fresh && !o->state)
         return wrong("--fresh", "goes with --state");
+    if (o->clock && strcmp(o->clock, "system") != 0 && strcmp(o->clock, "kept") != 0)
+        return wrong("--clock", "is kept or system");
+    if (o->zone && (!o->clock || strcmp(o->clock, "system") != 0))
+        return wrong("--zone", "goes with --clock system");
+    if (o->zone && !clock_has_zone(o->zone))
+        return wrong("--zone", "takes a time zone, as Europe/Vienna, UTC or CET-1CEST");
     if (!line_has_baud(o->baud))
         return wrong("--baud", "is 1200, 2400, 4800, 9600 or 19200");
     if (o->gap == 0)
@@ -142,6 +150,10 @@ static const char help[] =
     "                         What changed is on the disk before a reply is sent or an output acts, in FILE.journal-a\n"
     "                         or -b first and now and then in FILE. Time that the process is down is not counted, and a\n"
     "                         select or a write does not outlive it\n"
+    "  --clock system         set its clock from the host's time at the start. Otherwise (kept) it goes on where it was\n"
+    "                         kept, and the unit asks its masters for set-up (status bit 7), since nobody knows how far\n"
+    "                         it is behind\n"
+    "  --zone ZONE            the time zone of that clock, as UTC, Europe/Vienna or CET-1CEST; without, the host's\n"
     "  --fresh                begin with a fresh unit, whatever the state file has\n"
     "  --events FIFO          read local events there (made if it is missing), or from standard input (-)\n"
     "  --log FILE             append each event and what came out, - for standard output; fields parted by tabs:\n"

@@ -6,7 +6,7 @@
 #include <stdint.h>
 
 struct options {
-    const char *config, *serial, *tcp, *events, *state, *log; /* NULL: not given */
+    const char *config, *serial, *tcp, *events, *state, *log, *clock, *zone; /* NULL: not given */
     bool pty, fresh, help;
     uint32_t baud;
     uint32_t gap; /* milliseconds */

@@ -51,7 +51,21 @@ static bool make_bell(void)
     return true;
 }
 
-bool serve_begin(struct server *s, struct store *store)
+/* After a restart the clock is behind by nobody knows how much: unless it is set, the unit asks for set-up as after power on. */
+static void set_clock(struct osturdam_unit *unit, const struct day_time *clock)
+{
+    if (!clock) {
+        osturdam_put_kept(unit, OSTURDAM_STATUS_CONFIGURE, 1);
+        return;
+    }
+    osturdam_put_kept(unit, OSTURDAM_DAY, clock->day);
+    osturdam_put_kept(unit, OSTURDAM_HOUR, clock->hour);
+    osturdam_put_kept(unit, OSTURDAM_MINUTE, clock->minute);
+    osturdam_put_kept(unit, OSTURDAM_SECOND, clock->second);
+    osturdam_put_kept(unit, OSTURDAM_MS, clock->ms);
+}
+
+bool serve_begin(struct server *s, struct store *store, const struct day_time *clock)
 {
     const struct osturdam_unit *unit = &s->all->unit;
     if (!make_bell())
@@ -60,6 +74,7 @@ bool serve_begin(struct server *s, struct store *store)
     /* nobody knows how long the unit was down, so no select and no write may outlive that */
     if (osturdam_kept_of(unit, OSTURDAM_SELECT) == OSTURDAM_HELD || osturdam_kept_of(unit, OSTURDAM_WRITE) == OSTURDAM_WAITS)
         turn_pass(s, WAITED_MS);
+    set_clock(&s->all->unit, clock);
     s->keeper->kept.all = *s->all;
     return keeper_begin(s->keeper, store);
 }

@@ -2,6 +2,7 @@
 #ifndef UNIT2179_SERVE_H
 #define UNIT2179_SERVE_H
 
+#include "clock.h"
 #include "events.h"
 #include "keeper.h"
 #include "line.h"
@@ -45,8 +46,9 @@ struct server {
 
 enum served { SERVE_GOES_ON, SERVE_STOPPED, SERVE_STATE_LOST, SERVE_LINE_LOST, SERVE_OUTPUT_LOST };
 
-/* Makes ready a unit that is fresh or was read back. false: its state cannot be kept, which was told. */
-bool serve_begin(struct server *server, struct store *store);
+/* Makes ready a unit that is fresh or was read back, and sets its clock unless that is NULL. false: its state cannot be kept, which was
+ * told. */
+bool serve_begin(struct server *server, struct store *store, const struct day_time *clock);
 
 /* Serves until a signal ends it, the state cannot be kept, the line is lost or an output action cannot be told. */
 enum served serve(struct server *server);

@@ -15,7 +15,7 @@ class Start(LiveTest):
         self.assertEqual(done.returncode, 0)
         with open(os.path.join(ROOT, 'host', 'unit2179', 'options.c')) as source:
             options = set(re.findall(r'"(--[a-z-]+)"', source.read()))
-        self.assertEqual(len(options), 14)
+        self.assertEqual(len(options), 16)
         for option in options:
             self.assertIn(f'\n  {option} ', done.stdout)
 
@@ -35,7 +35,7 @@ class Start(LiveTest):
         self.assertEqual(os.listdir(self.folder), [], 'nothing is kept unless it is asked for')
 
     def test_wrong_command_lines(self):
-        for options in (['--wrong'], ['--baud'], ['--baud', '300'], ['--gap', '0'], ['--gap', '10001'], ['--tcp', 'x'], ['--fresh'],
+        for options in (['--wrong'], ['--baud'], ['--baud', '300'], ['--gap', '0'], ['--gap', '10001'], ['--tcp', 'x'], ['--fresh'], ['--clock', 'now'], ['--zone', 'UTC'],
                         ['--pty', '--tcp', '0'], ['1234']):
             with self.subTest(options):
                 status, said = self.refused(*options)
