@@ -6,34 +6,53 @@
 #include <stdio.h>
 #include <string.h>
 #include <sys/stat.h>
+#include <time.h>
 #include <unistd.h>
 
 #include "say.h"
 #include "stretch.h"
 
-enum { LINE = 2 * STRETCH_KEPT + 2 * OSTURDAM_REPLY + 64 }; /* no line is longer than a whole stretch and a whole reply */
+enum { LINE = 2 * STRETCH_KEPT + 2 * OSTURDAM_REPLY + 96 }; /* no line is longer than a whole stretch and a whole reply */
 
 static struct place at;
 static int into = -1;
 static bool failing; /* which was told */
+static bool torn;    /* it ends in a part of a line */
 
 struct text {
     char chars[LINE];
     size_t many;
 };
 
+/* A FIFO need not have a reader yet: it is opened for both, so that this waits for none. */
+static int open_file(const char *path)
+{
+    struct stat found;
+    bool fifo = stat(path, &found) == 0 && S_ISFIFO(found.st_mode);
+    int file = open(path, (fifo ? O_RDWR : O_WRONLY) | O_APPEND | O_CREAT | O_CLOEXEC, 0644);
+    if (file < 0)
+        complain(&at, "%s", strerror(errno));
+    return file;
+}
+
 bool log_open(const char *path)
 {
     if (!path)
         return true;
-    at.name = strcmp(path, "-") == 0 ? "standard output" : path;
-    /* a FIFO need not have a reader yet: it is opened for both, so that this waits for none */
-    struct stat found;
-    bool fifo = stat(path, &found) == 0 && S_ISFIFO(found.st_mode);
-    into = strcmp(path, "-") == 0 ? STDOUT_FILENO : open(path, (fifo ? O_RDWR : O_WRONLY) | O_APPEND | O_CREAT | O_CLOEXEC, 0644);
-    if (into < 0)
-        complain(&at, "%s", strerror(errno));
+    bool standard = strcmp(path, "-") == 0;
+    at.name = standard ? "standard output" : path;
+    into = standard ? STDOUT_FILENO : open_file(path);
     return into >= 0;
+}
+
+void log_reopen(void)
+{
+    int file = into > STDERR_FILENO ? open_file(at.name) : -1;
+    if (file < 0)
+        return;
+    close(into);
+    into = file;
+    failing = torn = false;
 }
 
 static void add(struct text *t, const char *format, ...) __attribute__((format(printf, 2, 3)));
@@ -54,18 +73,21 @@ static void add_hex(struct text *t, const uint8_t *chars, size_t many)
         add(t, "%02X", chars[i]);
 }
 
-/* A line that is not written whole is told once; the next that is begins on a line of its own. */
+/* A line that is not written whole is told once; behind a part of one the next begins on a line of its own. */
 static void put(struct text *t)
 {
-    add(t, "\n");
-    if ((failing && !put_chars(into, "\n", 1)) || !put_chars(into, t->chars, t->many)) {
-        if (!failing)
-            complain(&at, "the log cannot be written, and goes on when it can: %s",
-                     errno == EAGAIN ? "nobody reads it" : strerror(errno));
-        failing = true;
-        return;
-    }
-    failing = false;
+    struct timespec now;
+    struct tm tm;
+    clock_gettime(CLOCK_REALTIME, &now);
+    gmtime_r(&now.tv_sec, &tm);
+    add(t, "\t%04d-%02d-%02dT%02d:%02d:%02d.%03ldZ\n", tm.tm_year + 1900, tm.tm_mon + 1, tm.tm_mday, tm.tm_hour, tm.tm_min, tm.tm_sec,
+        now.tv_nsec / 1000000);
+    torn = torn && put_chars(into, "\n", 1) == 0;
+    size_t done = torn ? 0 : put_chars(into, t->chars, t->many);
+    if (done < t->many && !failing)
+        complain(&at, "the log cannot be written, and goes on when it can: %s", errno == EAGAIN ? "nobody reads it" : strerror(errno));
+    failing = done < t->many;
+    torn = torn || (failing && done > 0);
 }
 
 void log_time(uint32_t ms)
@@ -104,7 +126,7 @@ bool log_action(const struct osturdam_turned *turned)
     struct text told = {.many = 0}, t = {.many = 0};
     const char *what = turned->action == OSTURDAM_CLOSE ? "close" : "open";
     add(&told, "output %02Xh %s\n", turned->output, what);
-    bool good = put_chars(STDOUT_FILENO, told.chars, told.many);
+    bool good = put_chars(STDOUT_FILENO, told.chars, told.many) == told.many;
     int error = errno;
     add(&t, "A\t%u\t%s", turned->output, what);
     if (into >= 0 && good)

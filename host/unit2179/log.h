@@ -6,8 +6,8 @@
  *   L  why the reply of the R before it was not sent
  *   A  output, open or close
  *   E  kind of local event, its figures, outcome
- * so that its T and R lines, without what came out, are lines of the bench program. A log that cannot be written is told once, and never
- * stops the unit. */
+ * and last, on each line, when it was written (ISO 8601, in UTC). The first two fields of its T and R lines are lines of the bench
+ * program. A log that cannot be written is told once, and never stops the unit. */
 #ifndef UNIT2179_LOG_H
 #define UNIT2179_LOG_H
 
@@ -18,6 +18,9 @@
 
 /* Tells into a file, `-` for standard output, or nowhere (NULL). false: told on standard error. */
 bool log_open(const char *path);
+
+/* Opens the file again by its name, since someone may have moved it away. */
+void log_reopen(void);
 
 void log_time(uint32_t ms);
 void log_stretch(const uint8_t *stretch, size_t heard, const struct osturdam_turned *turned, const uint8_t *reply);

@@ -135,8 +135,8 @@ int main(int many, char **words)
     signal(SIGXFSZ, SIG_IGN); /* a limit of a file's size is an error like a full disk */
     if (!options_read(&options, many, words))
         return EXIT_USAGE;
-    if (options.help) {
-        options_help();
+    if (options.help || options.version) {
+        options.help ? options_help() : options_version();
         return EXIT_SUCCESS;
     }
     if (osturdam_layout() != OSTURDAM_LAYOUT) {

@@ -6,6 +6,7 @@
 #include "clock.h"
 #include "config.h"
 #include "events.h"
+#include "image.h"
 #include "line.h"
 #include "text.h"
 
@@ -47,10 +48,11 @@ static uint32_t *number_option(struct options *o, const char *option)
 
 static bool *flag_option(struct options *o, const char *option)
 {
-    return strcmp(option, "--pty") == 0     ? &o->pty
-           : strcmp(option, "--fresh") == 0 ? &o->fresh
-           : strcmp(option, "--help") == 0  ? &o->help
-                                            : NULL;
+    return strcmp(option, "--pty") == 0       ? &o->pty
+           : strcmp(option, "--fresh") == 0   ? &o->fresh
+           : strcmp(option, "--help") == 0    ? &o->help
+           : strcmp(option, "--version") == 0 ? &o->version
+                                              : NULL;
 }
 
 static bool split_address(struct options *o)
@@ -158,15 +160,16 @@ static const char help[] =
     "  --events FIFO          read local events there (made if it is missing), or from standard input (-)\n"
     "  --log FILE             append each event and what came out, - for standard output; fields parted by tabs:\n"
     "                         T ms, R stretch outcome reply, L why that reply was not sent, A output action,\n"
-    "                         E event figures outcome\n"
+    "                         E event figures outcome; the last field is when it was written. SIGHUP opens it again\n"
     "  --help                 print this\n"
+    "  --version              print which interface, layout and state files it has\n"
     "\n"
     "Standard output has the line's name, then a line for each output action. SIGTERM and SIGINT end it in order.\n"
     "\n";
 
 static void config_help(void)
 {
-    printf("Configuration lines (a number with an h behind it is hexadecimal, any other decimal; # begins a comment):\n"
+    printf("Configuration lines (numbers as 30h, 30H or 0x30 are hexadecimal, any other decimal; # begins a comment):\n"
            "  unit NUMBER            0 to %Xh; the one line that must be there\n"
            "  inputs LIST            equipped inputs, e.g. 30h 40h-43h; two-bit status 00-1Fh, status 30h-3Fh,\n"
            "                         accumulators 40h-5Fh, analogs 80h-FFh\n"
@@ -186,4 +189,10 @@ void options_help(void)
     putchar('\n');
     puts("Exit status: 0 ended in order, 1 log or events not to be had, 2 command line, 3 configuration, 4 state, 5 line,\n"
          "6 an output action could not be told.");
+}
+
+void options_version(void)
+{
+    printf("unit2179: interface %d of the library, units of layout %d, state files of version %d\n", OSTURDAM_VERSION, OSTURDAM_LAYOUT,
+           IMAGE_VERSION);
 }

@@ -7,7 +7,7 @@
 
 struct options {
     const char *config, *serial, *tcp, *events, *state, *log, *clock, *zone; /* NULL: not given */
-    bool pty, fresh, help;
+    bool pty, fresh, help, version;
     uint32_t baud;
     uint32_t gap; /* milliseconds */
     uint32_t suspension;
@@ -21,5 +21,6 @@ struct options {
 bool options_read(struct options *options, int many, char **words);
 
 void options_help(void);
+void options_version(void);
 
 #endif

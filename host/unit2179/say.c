@@ -9,24 +9,22 @@
 
 enum { SAID = 1024 };
 
-bool put_chars(int file, const char *chars, size_t many)
+size_t put_chars(int file, const char *chars, size_t many)
 {
     /* a pipe that can be written takes 4,096 characters at least: no line is longer, so none waits for a reader */
     struct pollfd room = {.fd = file, .events = POLLOUT};
-    while (many > 0) {
+    size_t done = 0;
+    while (done < many) {
         if (poll(&room, 1, 0) == 0) {
             errno = EAGAIN;
-            return false;
+            return done;
         }
-        ssize_t done = write(file, chars, many);
-        if (done < 0 && errno != EINTR)
-            return false;
-        if (done > 0) {
-            chars += done;
-            many -= (size_t)done;
-        }
+        ssize_t more = write(file, chars + done, many - done);
+        if (more < 0 && errno != EINTR)
+            return done;
+        done += more > 0 ? (size_t)more : 0;
     }
-    return true;
+    return done;
 }
 
 void complain(const struct place *at, const char *format, ...)

@@ -2,7 +2,6 @@
 #ifndef UNIT2179_SAY_H
 #define UNIT2179_SAY_H
 
-#include <stdbool.h>
 #include <stddef.h>
 
 struct place {
@@ -13,7 +12,7 @@ struct place {
 /* Says `name:line: message`. */
 void complain(const struct place *at, const char *format, ...) __attribute__((format(printf, 2, 3)));
 
-/* Writes characters into a file without waiting for a reader. false: not all of them, and errno tells why. */
-bool put_chars(int file, const char *chars, size_t many);
+/* Writes characters into a file without waiting for a reader. Answers how many; if not all, errno tells why. */
+size_t put_chars(int file, const char *chars, size_t many);
 
 #endif

@@ -10,6 +10,7 @@
 
 #include "clock.h"
 #include "guests.h"
+#include "log.h"
 #include "turn.h"
 
 enum {
@@ -22,13 +23,23 @@ enum { BELL, EVENTS, LISTENER, KEEPER, FIRST_CHANNEL = KEEPER + KEEPER_FILES, PO
 
 static int bell[2]; /* a signal writes, the loop reads: so none is missed between two looks */
 
+enum { ENDS = 'e', REOPENS = 'r' };
+
 /* Whatever the loop is doing, it has so long to end in order; what must last is kept at any moment. */
 static void ring(int signal)
 {
     static const struct itimerval soon = {.it_value = {.tv_usec = END_MS * 1000}};
     int before = errno;
-    if (write(bell[1], &signal, 1) < 0 || setitimer(ITIMER_REAL, &soon, NULL) != 0)
+    char what = signal == SIGHUP ? REOPENS : ENDS;
+    if (write(bell[1], &what, 1) < 0 || (what == ENDS && setitimer(ITIMER_REAL, &soon, NULL) != 0))
         errno = before;
+}
+
+/* What the bell was rung for. */
+static char rung(void)
+{
+    char what = 0;
+    return read(bell[0], &what, 1) == 1 ? what : 0;
 }
 
 static void end_at_once(int signal)
@@ -46,6 +57,7 @@ static bool make_bell(void)
     }
     sigaction(SIGTERM, &end, NULL);
     sigaction(SIGINT, &end, NULL);
+    sigaction(SIGHUP, &end, NULL);
     sigaction(SIGALRM, &at_once, NULL);
     signal(SIGPIPE, SIG_IGN);
     return true;
@@ -246,7 +258,10 @@ static enum served look(struct server *s)
     guests_look(s, now);
     if (polled[LISTENER].revents)
         guests_accept(s, now);
-    if (polled[BELL].revents)
+    char what = polled[BELL].revents ? rung() : 0;
+    if (what == REOPENS)
+        log_reopen();
+    if (what == ENDS)
         return end(s);
     if (s->waits == NOTHING_WAITS && now - s->kept >= (int64_t)KEEP_MS * NS_OF_MS)
         turn_keep_time(s);
@@ -259,5 +274,8 @@ enum served serve(struct server *s)
     do
         served = look(s);
     while (served == SERVE_GOES_ON);
+    /* what ends for another reason than its state has its clock kept as at an end in order */
+    if (served == SERVE_LINE_LOST || served == SERVE_OUTPUT_LOST)
+        end(s);
     return served;
 }

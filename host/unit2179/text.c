@@ -31,10 +31,12 @@ static uint32_t digit_of(char c)
 
 bool number_of(const char *word, uint32_t most, uint32_t *number)
 {
+    bool marked = word[0] == '0' && (word[1] == 'x' || word[1] == 'X');
+    word += marked ? 2 : 0;
     size_t length = strlen(word);
-    bool hex = length > 0 && word[length - 1] == 'h';
-    size_t digits = hex ? length - 1 : length;
-    uint32_t base = hex ? 16 : 10;
+    bool behind = !marked && length > 0 && (word[length - 1] == 'h' || word[length - 1] == 'H');
+    size_t digits = behind ? length - 1 : length;
+    uint32_t base = marked || behind ? 16 : 10;
     uint64_t value = 0;
     for (size_t i = 0; i < digits; i++) {
         if (digit_of(word[i]) >= base)

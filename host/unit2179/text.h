@@ -11,7 +11,7 @@ enum { TEXT_WORDS = 64 }; /* words that are told apart in a line; a list goes on
 /* Parts a line at its blanks, up to a #. Answers how many words there are, of which at most TEXT_WORDS are told. */
 size_t words_of(char *line, char *words[TEXT_WORDS]);
 
-/* Digits, decimal, or hexadecimal with an h behind them, of a number that is at most `most`. */
+/* A number that is at most `most`: decimal digits, or hexadecimal ones as 30h, 30H or 0x30. */
 bool number_of(const char *word, uint32_t most, uint32_t *number);
 
 #endif

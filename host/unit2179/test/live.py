@@ -55,10 +55,10 @@ class Unit:
         return self.process.stdout.readline().decode().rstrip('\n')
 
     def log(self, kind=''):
-        """The log's whole lines, each as its fields."""
+        """The log's whole lines, each as its fields but for the time when it was written."""
         with open(self.log_path) as log:
             lines = log.read().split('\n')[:-1]
-        return [line.split('\t') for line in lines if line.startswith(kind)]
+        return [line.split('\t')[:-1] for line in lines if line.startswith(kind)]
 
     def errors(self):
         with open(self.errors_path) as errors:

@@ -78,7 +78,7 @@ class Events(LiveTest):
         process.kill()
         process.wait(10)
         process.stdout.close()
-        self.assertEqual([line for line in told if line.startswith('E')], ['E\tword\t48\t7\t0\n', 'E\tpulse\t64\t3\t0\n'])
+        self.assertEqual([line.rpartition('\t')[0] for line in told if line.startswith('E')], ['E\tword\t48\t7\t0', 'E\tpulse\t64\t3\t0'])
 
 
 class Outputs(LiveTest):

@@ -15,9 +15,13 @@ class Start(LiveTest):
         self.assertEqual(done.returncode, 0)
         with open(os.path.join(ROOT, 'host', 'unit2179', 'options.c')) as source:
             options = set(re.findall(r'"(--[a-z-]+)"', source.read()))
-        self.assertEqual(len(options), 16)
+        self.assertEqual(len(options), 17)
         for option in options:
             self.assertIn(f'\n  {option} ', done.stdout)
+
+    def test_its_version_is_told(self):
+        done = subprocess.run([*RUN, '--version'], capture_output=True, text=True, timeout=10)
+        self.assertEqual((done.returncode, done.stdout), (0, 'unit2179: interface 2 of the library, units of layout 1, state files of version 3\n'))
 
     def test_without_options_the_bench_unit_answers_on_a_pseudo_terminal(self):
         process = subprocess.Popen(RUN, cwd=self.folder, stdin=subprocess.DEVNULL, stdout=subprocess.PIPE, text=True)
@@ -85,6 +89,14 @@ class Configuration(LiveTest):
         for file in (2, 7):
             self.assertEqual(wire.ask(frame(A, 1234, 0x04, 0x40 | file)).data, b'\0')
         self.assertEqual(wire.ask(frame(A, 1234, 0x28, 0x30, bytes([0, 0, 6, 64]))).data, bytes(64))
+
+    def test_numbers_as_they_are_written_elsewhere(self):
+        unit = self.unit('--config', self.write('conf', 'unit 0x4d2\ninputs 30H 0X40-43h 0x80-0x81\n'))
+        wire = self.wire(unit.name)
+        self.assertEqual(unit.told.split()[1], '1234')
+        self.assertEqual(len(wire.ask(frame(A, 1234, 0x00, 0x49)).data), 2 * (1 + 4 + 2))
+        for line in ('unit 0x', 'unit 0x12h', 'unit h', 'unit 0xG', 'unit x12', 'unit 12hh'):
+            self.assertTrue(self.complaints(line), line)
 
     def test_lines_may_end_as_elsewhere_and_ranges_join(self):
         unit = self.unit('--config', self.write('conf', 'unit 2046\r\ninputs 30h 30h-3Fh\r\ninputs 50'))
