@@ -1,8 +1,11 @@
+#define _DEFAULT_SOURCE /* speeds over 38400 */
+
 #include "line.h"
 
 #include <arpa/inet.h>
 #include <errno.h>
 #include <fcntl.h>
+#include <linux/serial.h>
 #include <netinet/in.h>
 #include <netinet/tcp.h>
 #include <stdio.h>
@@ -22,7 +25,8 @@ enum { SEND_MS = 5000 }; /* a reply of 520 characters at 1200 baud takes 4,334 m
 static const struct {
     uint32_t baud;
     speed_t speed;
-} speeds[] = {{1200, B1200}, {2400, B2400}, {4800, B4800}, {9600, B9600}, {19200, B19200}};
+} speeds[] = {{300, B300},     {600, B600},     {1200, B1200},   {2400, B2400},   {4800, B4800},
+              {9600, B9600},   {19200, B19200}, {38400, B38400}, {57600, B57600}, {115200, B115200}};
 
 enum { SPEEDS = sizeof speeds / sizeof *speeds };
 
@@ -53,14 +57,15 @@ static bool failed(const char *name, const char *what)
     return false;
 }
 
-/* Eight bits, one stop bit, no parity, every character as it is. */
-static bool make_raw(int file, speed_t speed)
+/* Eight bits, one stop bit, every character as it is; one with wrong parity is left out, and its stretch is damaged. */
+static bool make_raw(int file, speed_t speed, char parity)
 {
     struct termios t;
     if (tcgetattr(file, &t) != 0)
         return false;
-    t.c_iflag = t.c_oflag = t.c_lflag = 0;
-    t.c_cflag = CS8 | CREAD | CLOCAL;
+    t.c_oflag = t.c_lflag = 0;
+    t.c_iflag = parity == 'n' ? 0 : INPCK | IGNPAR;
+    t.c_cflag = CS8 | CREAD | CLOCAL | (parity == 'n' ? 0 : PARENB) | (parity == 'o' ? PARODD : 0);
     t.c_cc[VMIN] = 1;
     t.c_cc[VTIME] = 0;
     return cfsetispeed(&t, speed) == 0 && cfsetospeed(&t, speed) == 0 && tcsetattr(file, TCSANOW, &t) == 0;
@@ -72,7 +77,13 @@ static bool take_alone(int file)
     return flock(file, LOCK_EX | LOCK_NB) == 0 && (!isatty(file) || ioctl(file, TIOCEXCL) == 0);
 }
 
-bool line_open_serial(struct line *line, const char *device, uint32_t baud)
+static bool key_sender(int file)
+{
+    struct serial_rs485 keyed = {.flags = SER_RS485_ENABLED | SER_RS485_RTS_ON_SEND};
+    return ioctl(file, TIOCSRS485, &keyed) == 0;
+}
+
+bool line_open_serial(struct line *line, const char *device, const struct serial *serial)
 {
     line_empty(line, device);
     int file = open(device, O_RDWR | O_NOCTTY | O_NONBLOCK | O_CLOEXEC);
@@ -80,8 +91,10 @@ bool line_open_serial(struct line *line, const char *device, uint32_t baud)
         return failed(device, "cannot be opened");
     if (!take_alone(file))
         return failed(device, "another program has it");
-    if (!make_raw(file, speeds[speed_of(baud)].speed))
+    if (!make_raw(file, speeds[speed_of(serial->baud)].speed, serial->parity))
         return failed(device, "is no serial device");
+    if (serial->rs485 && !key_sender(file))
+        return failed(device, "does not key an RS-485 sender");
     tcflush(file, TCIFLUSH); /* what was sent before the unit was there is not heard */
     line->channels[0].file = file;
     return true;
@@ -95,7 +108,7 @@ bool line_open_pty(struct line *line)
         return failed(line->name, "cannot be made");
     line_empty(line, ptsname(file));
     line->held = open(line->name, O_RDWR | O_NOCTTY | O_CLOEXEC);
-    if (line->held < 0 || !make_raw(line->held, B9600) || fcntl(file, F_SETFL, O_NONBLOCK) != 0)
+    if (line->held < 0 || !make_raw(line->held, B9600, 'n') || fcntl(file, F_SETFL, O_NONBLOCK) != 0)
         return failed(line->name, "cannot be opened");
     line->channels[0].file = file;
     return true;

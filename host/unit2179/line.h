@@ -30,8 +30,15 @@ struct line {
     struct channel channels[CHANNELS];
 };
 
+/* How a serial device is set. */
+struct serial {
+    uint32_t baud;
+    char parity; /* n, e or o */
+    bool rs485;  /* its driver keys the sender, by RTS */
+};
+
 /* Each opens a line and names it. false: told on standard error. */
-bool line_open_serial(struct line *line, const char *device, uint32_t baud);
+bool line_open_serial(struct line *line, const char *device, const struct serial *serial);
 bool line_open_pty(struct line *line);
 bool line_open_tcp(struct line *line, const char *address, uint16_t port);
 

@@ -77,7 +77,7 @@ static bool restore(const struct options *o, struct store *store)
 static bool connect_line(const struct options *o)
 {
     if (o->serial)
-        return line_open_serial(&line, o->serial, o->baud);
+        return line_open_serial(&line, o->serial, &o->line);
     return o->tcp ? line_open_tcp(&line, o->address, o->port) : line_open_pty(&line);
 }
 

@@ -10,9 +10,11 @@
 #include "line.h"
 #include "text.h"
 
+#define BAUDS "is 300, 600, 1200, 2400, 4800, 9600, 19200, 38400, 57600 or 115200"
+
 enum { LEAST_GAP = 20, LONGEST_WAIT = 10000, LONGEST_IDLE = 1000000 };
 
-static const struct options defaults = {.baud = 9600, .suspension = 1000, .reply_within = 100, .idle = 600, .address = "127.0.0.1"};
+static const struct options defaults = {.line = {.baud = 9600, .parity = 'n'}, .suspension = 1000, .reply_within = 100, .idle = 600, .address = "127.0.0.1"};
 
 static bool wrong(const char *option, const char *what)
 {
@@ -28,7 +30,7 @@ static const char **text_of(struct options *o, const char *option)
         const char **text;
     } texts[] = {{"--config", &o->config}, {"--serial", &o->serial}, {"--tcp", &o->tcp},
                  {"--events", &o->events}, {"--state", &o->state},   {"--log", &o->log},
-                 {"--clock", &o->clock},   {"--zone", &o->zone}};
+                 {"--clock", &o->clock},   {"--zone", &o->zone},     {"--parity", &o->parity}};
     for (size_t i = 0; i < sizeof texts / sizeof *texts; i++) {
         if (strcmp(option, texts[i].option) == 0)
             return texts[i].text;
@@ -38,7 +40,7 @@ static const char **text_of(struct options *o, const char *option)
 
 static uint32_t *number_option(struct options *o, const char *option)
 {
-    return strcmp(option, "--baud") == 0           ? &o->baud
+    return strcmp(option, "--baud") == 0           ? &o->line.baud
            : strcmp(option, "--gap") == 0          ? &o->gap
            : strcmp(option, "--suspension") == 0   ? &o->suspension
            : strcmp(option, "--reply-within") == 0 ? &o->reply_within
@@ -52,6 +54,7 @@ static bool *flag_option(struct options *o, const char *option)
            : strcmp(option, "--fresh") == 0   ? &o->fresh
            : strcmp(option, "--help") == 0    ? &o->help
            : strcmp(option, "--version") == 0 ? &o->version
+           : strcmp(option, "--rs485") == 0   ? &o->line.rs485
                                               : NULL;
 }
 
@@ -67,10 +70,11 @@ static bool split_address(struct options *o)
     return true;
 }
 
-/* 3.5 characters of ten bits, but no less than what a host and its adapters may be late by. */
-static uint32_t gap_at(uint32_t baud)
+/* 3.5 characters of ten bits, or eleven with parity, but no less than what a host and its adapters may be late by. */
+static uint32_t gap_at(const struct serial *line)
 {
-    uint32_t characters = (35000 + baud - 1) / baud;
+    uint32_t bits = line->parity == 'n' ? 35000 : 38500;
+    uint32_t characters = (bits + line->baud - 1) / line->baud;
     return characters > LEAST_GAP ? characters : LEAST_GAP;
 }
 
@@ -86,19 +90,23 @@ static bool settled(struct options *o)
         return wrong("--zone", "goes with --clock system");
     if (o->zone && !clock_has_zone(o->zone))
         return wrong("--zone", "takes a time zone, as Europe/Vienna, UTC or CET-1CEST");
-    if (!line_has_baud(o->baud))
-        return wrong("--baud", "is 1200, 2400, 4800, 9600 or 19200");
+    if (o->parity && strcmp(o->parity, "none") != 0 && strcmp(o->parity, "even") != 0 && strcmp(o->parity, "odd") != 0)
+        return wrong("--parity", "is none, even or odd");
+    if (o->parity)
+        o->line.parity = o->parity[0];
+    if (!line_has_baud(o->line.baud))
+        return wrong("--baud", BAUDS);
     if (o->gap == 0)
-        o->gap = gap_at(o->baud);
+        o->gap = gap_at(&o->line);
     return !o->tcp || split_address(o);
 }
 
 static bool take_number(const struct options *o, const char *option, const char *word, uint32_t *number)
 {
-    bool baud = number == &o->baud, idle = number == &o->idle;
-    if (number_of(word, baud ? 19200 : idle ? LONGEST_IDLE : LONGEST_WAIT, number) && *number > 0)
+    bool baud = number == &o->line.baud, idle = number == &o->idle;
+    if (number_of(word, baud ? 115200 : idle ? LONGEST_IDLE : LONGEST_WAIT, number) && *number > 0)
         return true;
-    return wrong(option, baud   ? "is 1200, 2400, 4800, 9600 or 19200"
+    return wrong(option, baud   ? BAUDS
                          : idle ? "takes seconds, 1 to 1000000"
                                 : "takes milliseconds, 1 to 10000");
 }
@@ -133,13 +141,16 @@ static const char help[] =
     "\n"
     "The line, one of:\n"
     "  --pty                  a pseudo-terminal of its own (the default)\n"
-    "  --serial DEVICE        a serial device or pseudo-terminal that exists: 8 bits, 1 stop bit, no parity\n"
+    "  --serial DEVICE        a serial device or pseudo-terminal that exists: 8 bits, 1 stop bit\n"
     "  --tcp [ADDRESS:]PORT   a TCP port (address 127.0.0.1; port 0: a free one). Up to 8 masters may be connected, and\n"
     "                         one more if another was quiet for a second, which then goes. Each connection has idle\n"
     "                         marks of its own, gets the replies to what it sent, and has the master's number that\n"
     "                         it sent first, as long as it is open: a second one with that number is closed\n"
     "  --idle SECONDS         a connection that was quiet for so long is closed (600)\n"
-    "  --baud RATE            of the serial device: 1200, 2400, 4800, 9600 (the default) or 19200\n"
+    "  --baud RATE            of the serial device: 300, 600, 1200, 2400, 4800, 9600 (the default), 19200, 38400, 57600 or\n"
+    "                         115200\n"
+    "  --parity PARITY        none (the default, as the protocol says), even or odd\n"
+    "  --rs485                the device's driver keys an RS-485 sender, by RTS\n"
     "  --gap MS               quiet time that is an idle mark; 3.5 characters at the baud rate, at least 20 ms\n"
     "  --suspension MS        quiet time that is an idle mark behind the header of a Set Time (1000)\n"
     "  --reply-within MS      a reply that could not begin so soon after the idle mark is not sent (100): a master that\n"

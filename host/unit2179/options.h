@@ -5,10 +5,13 @@
 #include <stdbool.h>
 #include <stdint.h>
 
+#include "line.h"
+
 struct options {
     const char *config, *serial, *tcp, *events, *state, *log, *clock, *zone; /* NULL: not given */
     bool pty, fresh, help, version;
-    uint32_t baud;
+    struct serial line;
+    const char *parity;
     uint32_t gap; /* milliseconds */
     uint32_t suspension;
     uint32_t reply_within;

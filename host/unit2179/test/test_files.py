@@ -132,6 +132,22 @@ class Links(LiveTest):
 
 
 class Devices(LiveTest):
+    def test_a_serial_device_is_set_as_asked_for(self):
+        for rate, parity, odd in (('300', 'none', 0), ('57600', 'even', 0), ('115200', 'odd', termios.PARODD)):
+            wire, name = self.pair()
+            unit = self.unit('--serial', name, '--baud', rate, '--parity', parity, '--gap', '20')
+            _, _, control, _, into, out, _ = termios.tcgetattr(self.held[-1])
+            speed = getattr(termios, 'B' + rate)
+            # a pseudo-terminal has no parity, and keeps only which one it would be
+            self.assertEqual((into, out, control & (termios.CSIZE | termios.PARODD)), (speed, speed, termios.CS8 | odd))
+            self.assertTrue(wire.ask(SCAN))
+            unit.end()
+
+    def test_a_device_that_keys_no_sender_is_refused(self):
+        wire, name = self.pair()
+        status, said = self.refused('--serial', name, '--rs485')
+        self.assertEqual((status, 'RS-485' in said), (5, True))
+
     def test_a_serial_device_is_taken_alone(self):
         wire, name = self.pair()
         unit = self.unit('--serial', name)

@@ -14,8 +14,8 @@ class Start(LiveTest):
         done = subprocess.run([*RUN, '--help'], capture_output=True, text=True, timeout=10)
         self.assertEqual(done.returncode, 0)
         with open(os.path.join(ROOT, 'host', 'unit2179', 'options.c')) as source:
-            options = set(re.findall(r'"(--[a-z-]+)"', source.read()))
-        self.assertEqual(len(options), 17)
+            options = set(re.findall(r'"(--[a-z0-9-]+)"', source.read()))
+        self.assertEqual(len(options), 19)
         for option in options:
             self.assertIn(f'\n  {option} ', done.stdout)
 
@@ -39,7 +39,7 @@ class Start(LiveTest):
         self.assertEqual(os.listdir(self.folder), [], 'nothing is kept unless it is asked for')
 
     def test_wrong_command_lines(self):
-        for options in (['--wrong'], ['--baud'], ['--baud', '300'], ['--gap', '0'], ['--gap', '10001'], ['--tcp', 'x'], ['--fresh'], ['--clock', 'now'], ['--zone', 'UTC'],
+        for options in (['--wrong'], ['--baud'], ['--baud', '301'], ['--parity', 'mark'], ['--gap', '0'], ['--gap', '10001'], ['--tcp', 'x'], ['--fresh'], ['--clock', 'now'], ['--zone', 'UTC'],
                         ['--pty', '--tcp', '0'], ['1234']):
             with self.subTest(options):
                 status, said = self.refused(*options)
