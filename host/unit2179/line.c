@@ -2,10 +2,10 @@
 
 #include "line.h"
 
-#include <arpa/inet.h>
 #include <errno.h>
 #include <fcntl.h>
 #include <linux/serial.h>
+#include <netdb.h>
 #include <netinet/in.h>
 #include <netinet/tcp.h>
 #include <stdio.h>
@@ -114,23 +114,53 @@ bool line_open_pty(struct line *line)
     return true;
 }
 
-bool line_open_tcp(struct line *line, const char *address, uint16_t port)
+/* Listens on the first address of a list on which that can be done. */
+static int listen_on(const struct addrinfo *found)
 {
-    struct sockaddr_in at = {.sin_family = AF_INET, .sin_port = htons(port)};
-    socklen_t length = sizeof at;
     int yes = 1;
-    line_empty(line, address);
-    if (inet_pton(AF_INET, address, &at.sin_addr) != 1) {
-        errno = EINVAL;
-        return failed(address, "is no address of four numbers");
+    for (; found; found = found->ai_next) {
+        int file = socket(found->ai_family, SOCK_STREAM, 0);
+        if (file >= 0 && setsockopt(file, SOL_SOCKET, SO_REUSEADDR, &yes, sizeof yes) == 0 &&
+            bind(file, found->ai_addr, found->ai_addrlen) == 0 && listen(file, CHANNELS) == 0 && fcntl(file, F_SETFL, O_NONBLOCK) == 0 &&
+            fcntl(file, F_SETFD, FD_CLOEXEC) == 0)
+            return file;
+        int error = errno;
+        if (file >= 0)
+            close(file);
+        errno = error;
     }
-    line->listener = socket(AF_INET, SOCK_STREAM, 0);
-    if (line->listener < 0 || setsockopt(line->listener, SOL_SOCKET, SO_REUSEADDR, &yes, sizeof yes) != 0 ||
-        bind(line->listener, (struct sockaddr *)&at, length) != 0 || listen(line->listener, CHANNELS) != 0 ||
-        fcntl(line->listener, F_SETFL, O_NONBLOCK) != 0 || getsockname(line->listener, (struct sockaddr *)&at, &length) != 0)
-        return failed(address, "cannot be listened on");
-    snprintf(line->name, sizeof line->name, "%s:%u", address, (unsigned)ntohs(at.sin_port));
+    return -1;
+}
+
+/* The line's name is its address and port; one that every network can reach is told as such. */
+static bool name_listener(struct line *line)
+{
+    struct sockaddr_storage at;
+    socklen_t length = sizeof at;
+    char address[INET6_ADDRSTRLEN], port[8];
+    if (getsockname(line->listener, (struct sockaddr *)&at, &length) != 0 ||
+        getnameinfo((struct sockaddr *)&at, length, address, sizeof address, port, sizeof port, NI_NUMERICHOST | NI_NUMERICSERV) != 0)
+        return false;
+    snprintf(line->name, sizeof line->name, at.ss_family == AF_INET6 ? "[%s]:%s" : "%s:%s", address, port);
+    if (line->peers->many == 0 && (strcmp(address, "0.0.0.0") == 0 || strcmp(address, "::") == 0))
+        complain(&(struct place){line->name, 0}, "whoever can reach this host can operate the unit (--peer says who may)");
     return true;
+}
+
+bool line_open_tcp(struct line *line, const char *address, const char *port, const struct peers *peers)
+{
+    const struct addrinfo wanted = {.ai_family = AF_UNSPEC, .ai_socktype = SOCK_STREAM, .ai_flags = AI_PASSIVE | AI_NUMERICSERV};
+    struct addrinfo *found;
+    line_empty(line, address);
+    line->peers = peers;
+    int wrong = getaddrinfo(address, port, &wanted, &found);
+    if (wrong) {
+        complain(&(struct place){address, 0}, "is no address: %s", gai_strerror(wrong));
+        return false;
+    }
+    line->listener = listen_on(found);
+    freeaddrinfo(found);
+    return (line->listener >= 0 && name_listener(line)) || failed(address, "cannot be listened on");
 }
 
 static struct channel *free_channel(struct line *line)
@@ -161,11 +191,16 @@ static void watch_peer(int file)
 
 bool line_accept(struct line *line, int64_t now)
 {
-    int file = accept(line->listener, NULL, NULL);
+    struct sockaddr_storage from;
+    socklen_t length = sizeof from;
+    int file = accept(line->listener, (struct sockaddr *)&from, &length);
     struct channel *channel = free_channel(line);
     if (file < 0)
         return false;
-    if (!channel) {
+    bool allowed = peers_allow(line->peers, (struct sockaddr *)&from);
+    if (!allowed)
+        complain(&(struct place){line->name, 0}, "a connection was turned away: its address is not among those that may come");
+    if (!channel || !allowed) {
         close(file);
         return true;
     }

@@ -7,6 +7,7 @@
 
 #include <stdbool.h>
 
+#include "peers.h"
 #include "stretch.h"
 
 enum { CHANNELS = 8, LINE_NAME = 256 };
@@ -25,8 +26,9 @@ struct channel {
 
 struct line {
     char name[LINE_NAME];
-    int listener;       /* of a TCP port, else -1 */
-    int held;           /* the other side of a pseudo-terminal, held so that it stands between two masters, else -1 */
+    int listener; /* of a TCP port, else -1 */
+    const struct peers *peers; /* who may connect */
+    int held; /* the other side of a pseudo-terminal, held so that it stands between two masters, else -1 */
     struct channel channels[CHANNELS];
 };
 
@@ -40,7 +42,7 @@ struct serial {
 /* Each opens a line and names it. false: told on standard error. */
 bool line_open_serial(struct line *line, const char *device, const struct serial *serial);
 bool line_open_pty(struct line *line);
-bool line_open_tcp(struct line *line, const char *address, uint16_t port);
+bool line_open_tcp(struct line *line, const char *address, const char *port, const struct peers *peers);
 
 /* Whether the line has this speed. */
 bool line_has_baud(uint32_t baud);

@@ -78,7 +78,7 @@ static bool connect_line(const struct options *o)
 {
     if (o->serial)
         return line_open_serial(&line, o->serial, &o->line);
-    return o->tcp ? line_open_tcp(&line, o->address, o->port) : line_open_pty(&line);
+    return o->tcp ? line_open_tcp(&line, o->address, o->port, &o->peers) : line_open_pty(&line);
 }
 
 static int ended(enum served served)

@@ -58,15 +58,19 @@ static bool *flag_option(struct options *o, const char *option)
                                               : NULL;
 }
 
+/* ADDRESS:PORT, [ADDRESS]:PORT or PORT. */
 static bool split_address(struct options *o)
 {
     uint32_t port;
     const char *colon = strrchr(o->tcp, ':');
+    size_t length = colon ? (size_t)(colon - o->tcp) : 0;
+    bool bracketed = length > 2 && o->tcp[0] == '[' && o->tcp[length - 1] == ']';
+    o->port = colon ? colon + 1 : o->tcp;
+    if (!number_of(o->port, 65535, &port) || strspn(o->port, "0123456789") != strlen(o->port) || (colon && length == 0) ||
+        length >= sizeof o->address || (!bracketed && memchr(o->tcp, ':', length)))
+        return wrong("--tcp", "takes [ADDRESS:]PORT, an address of IPv6 in brackets");
     if (colon)
-        snprintf(o->address, sizeof o->address, "%.*s", (int)(colon - o->tcp), o->tcp);
-    if (!number_of(colon ? colon + 1 : o->tcp, 65535, &port))
-        return wrong("--tcp", "takes [ADDRESS:]PORT");
-    o->port = (uint16_t)port;
+        snprintf(o->address, sizeof o->address, "%.*s", (int)length - 2 * bracketed, o->tcp + bracketed);
     return true;
 }
 
@@ -82,6 +86,8 @@ static bool settled(struct options *o)
 {
     if ((o->serial != NULL) + (o->tcp != NULL) + o->pty > 1)
         return wrong("--serial, --pty and --tcp", "do not go together");
+    if (o->peers.many > 0 && !o->tcp)
+        return wrong("--peer", "goes with --tcp");
     if (o->fresh && !o->state)
         return wrong("--fresh", "goes with --state");
     if (o->clock && strcmp(o->clock, "system") != 0 && strcmp(o->clock, "kept") != 0)
@@ -117,13 +123,17 @@ bool options_read(struct options *o, int many, char **words)
     for (int i = 1; i < many; i++) {
         const char **text = text_of(o, words[i]);
         uint32_t *number = number_option(o, words[i]);
-        bool *flag = flag_option(o, words[i]);
+        bool *flag = flag_option(o, words[i]), peer = strcmp(words[i], "--peer") == 0;
         if (flag)
             *flag = true;
-        else if (!text && !number)
+        else if (!text && !number && !peer)
             return wrong(words[i], "is no option");
         else if (i + 1 == many)
             return wrong(words[i], "lacks what it takes");
+        else if (peer && !peers_add(&o->peers, words[++i]))
+            return wrong("--peer", "takes ADDRESS or ADDRESS/BITS, up to 32 times");
+        else if (peer)
+            continue;
         else if (text)
             *text = words[++i];
         else if (!take_number(o, words[i], words[i + 1], number))
@@ -142,10 +152,12 @@ static const char help[] =
     "The line, one of:\n"
     "  --pty                  a pseudo-terminal of its own (the default)\n"
     "  --serial DEVICE        a serial device or pseudo-terminal that exists: 8 bits, 1 stop bit\n"
-    "  --tcp [ADDRESS:]PORT   a TCP port (address 127.0.0.1; port 0: a free one). Up to 8 masters may be connected, and\n"
-    "                         one more if another was quiet for a second, which then goes. Each connection has idle\n"
-    "                         marks of its own, gets the replies to what it sent, and has the master's number that\n"
-    "                         it sent first, as long as it is open: a second one with that number is closed\n"
+    "  --tcp [ADDRESS:]PORT   a TCP port of an address or name, one of IPv6 in brackets (without: 127.0.0.1; port 0: a\n"
+    "                         free one). Up to 8 masters may be connected, and one more if another was quiet for a\n"
+    "                         second, which then goes. Each connection has idle marks of its own, gets the replies to\n"
+    "                         what it sent, and has the master's number that it sent first, as long as it is open: a\n"
+    "                         second one with that number is closed\n"
+    "  --peer ADDRESS[/BITS]  who may connect; may be given up to 32 times (without: all)\n"
     "  --idle SECONDS         a connection that was quiet for so long is closed (600)\n"
     "  --baud RATE            of the serial device: 300, 600, 1200, 2400, 4800, 9600 (the default), 19200, 38400, 57600 or\n"
     "                         115200\n"

@@ -16,8 +16,9 @@ struct options {
     uint32_t suspension;
     uint32_t reply_within;
     uint32_t idle; /* seconds */
-    char address[64]; /* of the TCP port */
-    uint16_t port;
+    char address[256]; /* of the TCP port */
+    const char *port;
+    struct peers peers;
 };
 
 /* false: a word is wrong, which was told. */

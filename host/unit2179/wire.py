@@ -27,7 +27,7 @@ class Wire:
             address, colon, port = place.rpartition(':')
             if not colon:
                 raise ValueError('no such device, and no ADDRESS:PORT')
-            self.socket = socket.create_connection((address, int(port)), timeout=5)
+            self.socket = socket.create_connection((address.strip('[]'), int(port)), timeout=5)
             self.socket.setsockopt(socket.IPPROTO_TCP, socket.TCP_NODELAY, 1)
             self.file = self.socket.fileno()
 

@@ -53,6 +53,7 @@ def told_of(what, asked, waited):
 
 
 def main():
+    signal.signal(signal.SIGTERM, lambda *_: sys.exit(1))  # so that nothing is left running
     seconds = float(sys.argv[1]) if len(sys.argv) > 1 else 60
     place = sys.argv[2] if len(sys.argv) > 2 else os.path.join(ROOT, 'target', 'unit2179')
     with tempfile.TemporaryDirectory(prefix='busy-', dir=place) as folder:

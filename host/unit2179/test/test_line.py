@@ -134,6 +134,40 @@ class Connections(LiveTest):
         self.assertTrue(self.wire(unit.name).ask(frame(0, UNIT, 0x00, 0x41)))
         self.assertNotIn('connection', unit.errors())
 
+    def test_addresses_and_names(self):
+        self.assertTrue(self.wire(self.unit('--tcp', 'localhost:0').name).ask(POLL))
+        if socket.has_ipv6 and os.path.exists('/proc/net/if_inet6'):
+            unit = self.unit('--tcp', '[::1]:0')
+            self.assertRegex(unit.name, r'^\[::1\]:\d+$')
+            self.assertTrue(self.wire(unit.name).ask(POLL))
+        for wrong in ('::1:0', ':0', '127.0.0.1:x', '[::1]0', '127.0.0.1:65536', '127.0.0.1:0x10'):
+            self.assertEqual(self.refused('--tcp', wrong)[0], 2, wrong)
+        self.assertEqual(self.refused('--tcp', 'no such name:0')[0], 5)
+
+    def test_a_port_that_all_can_reach_is_told_as_such(self):
+        words = 'whoever can reach this host'
+        unit = self.unit('--tcp', '0.0.0.0:0')
+        self.assertIn(words, unit.errors())
+        os.remove(unit.errors_path)
+        for options in (('0.0.0.0:0', '--peer', '127.0.0.1'), ('127.0.0.1:0',)):
+            self.assertNotIn(words, self.unit('--tcp', *options).errors())
+
+    def test_who_may_connect(self):
+        for peers, may in ((['10.0.0.0/8'], False), (['10.0.0.0/8', '127.0.0.0/9'], True), (['127.0.0.1'], True), (['127.0.0.2/31'], False),
+                           (['127.128.0.0/9'], False), (['::1'], False), (['::ffff:127.0.0.1'], True), (['0.0.0.0/0'], True)):
+            unit = self.unit('--tcp', '0', *(word for peer in peers for word in ('--peer', peer)))
+            wire = self.wire(unit.name)
+            with self.subTest(peers):
+                if may:
+                    self.assertTrue(wire.ask(POLL))
+                else:
+                    wire.socket.settimeout(5)
+                    self.assertEqual(wire.socket.recv(1), b'')
+                    self.assertIn('not among those', unit.errors())
+            unit.end()
+        for wrong in ('x', '127.0.0.1/33', '::1/129', '127.0.0.1/', ''):
+            self.assertEqual(self.refused('--tcp', '0', '--peer', wrong)[0], 2, wrong)
+
     def test_a_masters_number_belongs_to_one_connection(self):
         unit = self.unit('--tcp', '0', '--config', SAMPLE, '--events', 'events')
         self.tell('events', *(f'record 7 1 {value}' for value in (1, 2, 3)))
