@@ -7,6 +7,7 @@
 #include <string.h>
 #include <unistd.h>
 
+#include "capture.h"
 #include "clock.h"
 #include "config.h"
 #include "events.h"
@@ -99,7 +100,7 @@ static int run(const struct options *o)
         return EXIT_CONFIG;
     if (!restore(o, &store))
         return EXIT_STATE;
-    if (!log_open(o->log) || !events_open(&events, o->events))
+    if (!log_open(o->log) || !capture_open(o->capture) || !events_open(&events, o->events))
         return EXIT_FAILURE;
     if (!connect_line(o))
         return EXIT_LINE;

@@ -30,7 +30,7 @@ static const char **text_of(struct options *o, const char *option)
         const char **text;
     } texts[] = {{"--config", &o->config}, {"--serial", &o->serial}, {"--tcp", &o->tcp},
                  {"--events", &o->events}, {"--state", &o->state},   {"--log", &o->log},
-                 {"--clock", &o->clock},   {"--zone", &o->zone},     {"--parity", &o->parity}};
+                 {"--clock", &o->clock},   {"--zone", &o->zone},     {"--parity", &o->parity}, {"--capture", &o->capture}};
     for (size_t i = 0; i < sizeof texts / sizeof *texts; i++) {
         if (strcmp(option, texts[i].option) == 0)
             return texts[i].text;
@@ -184,6 +184,7 @@ static const char help[] =
     "  --log FILE             append each event and what came out, - for standard output; fields parted by tabs:\n"
     "                         T ms, R stretch outcome reply, L why that reply was not sent, A output action,\n"
     "                         E event figures outcome; the last field is when it was written. SIGHUP opens it again\n"
+    "  --capture FILE         append what is heard and sent as a capture (pcapng) that Wireshark opens\n"
     "  --help                 print this\n"
     "  --version              print which interface, layout and state files it has\n"
     "\n"
@@ -210,7 +211,7 @@ void options_help(void)
     putchar('\n');
     events_help();
     putchar('\n');
-    puts("Exit status: 0 ended in order, 1 log or events not to be had, 2 command line, 3 configuration, 4 state, 5 line,\n"
+    puts("Exit status: 0 ended in order, 1 log, capture or events not to be had, 2 command line, 3 configuration, 4 state, 5 line,\n"
          "6 an output action could not be told.");
 }
 

@@ -8,7 +8,7 @@
 #include "line.h"
 
 struct options {
-    const char *config, *serial, *tcp, *events, *state, *log, *clock, *zone; /* NULL: not given */
+    const char *config, *serial, *tcp, *events, *state, *log, *capture, *clock, *zone; /* NULL: not given */
     bool pty, fresh, help, version;
     struct serial line;
     const char *parity;

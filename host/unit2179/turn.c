@@ -3,6 +3,7 @@
 #include <errno.h>
 #include <string.h>
 
+#include "capture.h"
 #include "clock.h"
 #include "guests.h"
 #include "log.h"
@@ -64,6 +65,7 @@ enum served turn_hear(struct server *s, struct channel *channel)
     a->heard = channel->marked;
     a->mark = channel->mark;
     channel->marked.heard = 0;
+    capture_heard(a->heard.chars, a->heard.heard);
     turn_pass_time(s);
     memcpy(before, s->all->unit.numbers, sizeof before);
     struct osturdam_heard heard = {.chars = a->heard.chars, .count = a->heard.heard, .buffer = a->reply, .room = sizeof a->reply};
@@ -103,8 +105,10 @@ static void send_reply(struct server *s)
     const char *why = a->channel ? unsent(s, a) : "gone";
     if (!why && !channel_send(a->channel, a->reply, a->turned.sent))
         why = "not taken";
-    if (!why)
+    if (!why) {
+        capture_sent(a->reply, a->turned.sent);
         return;
+    }
     log_unsent(why);
     complain(&(struct place){s->line->name, 0}, "a reply was not sent: %s", why);
 }

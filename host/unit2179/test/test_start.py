@@ -15,7 +15,7 @@ class Start(LiveTest):
         self.assertEqual(done.returncode, 0)
         with open(os.path.join(ROOT, 'host', 'unit2179', 'options.c')) as source:
             options = set(re.findall(r'"(--[a-z0-9-]+)"', source.read()))
-        self.assertEqual(len(options), 20)
+        self.assertEqual(len(options), 21)
         for option in options:
             self.assertIn(f'\n  {option} ', done.stdout)
 
@@ -48,7 +48,7 @@ class Start(LiveTest):
 
     def test_what_cannot_be_opened(self):
         plain = self.write('plain', '')
-        for status, *options in ((1, '--log', 'none/log'), (1, '--events', plain), (3, '--config', 'none'), (4, '--state', 'none/state'),
+        for status, *options in ((1, '--log', 'none/log'), (1, '--capture', 'none/capture'), (1, '--events', plain), (3, '--config', 'none'), (4, '--state', 'none/state'),
                                  (5, '--serial', 'none'), (5, '--serial', plain), (5, '--tcp', '1.2.3:0')):
             with self.subTest(options):
                 found, said = self.refused(*options)
