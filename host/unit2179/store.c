@@ -149,6 +149,17 @@ static bool synced(const char *path)
     return good;
 }
 
+/* Writes a file that is open, and closes it. */
+static bool filled(int file, const uint8_t image[IMAGE])
+{
+    bool good = write_at(file, 0, image, IMAGE) && fsync(file) == 0;
+    int error = errno;
+    if (close(file) != 0 && good)
+        return false;
+    errno = error;
+    return good;
+}
+
 /* The new file is on the disk before it takes the old one's name, and the name before the caller goes on. What a process that was killed
  * left half written is removed, and so is a link that someone laid there. */
 bool store_whole(const struct store *store, const uint8_t image[IMAGE])
@@ -158,9 +169,10 @@ bool store_whole(const struct store *store, const uint8_t image[IMAGE])
     int file = open(store->fresh, O_WRONLY | O_CREAT | O_EXCL | O_CLOEXEC | O_NOFOLLOW, 0644);
     if (file < 0)
         return false;
-    bool good = write_at(file, 0, image, IMAGE) && fsync(file) == 0;
+    if (filled(file, image) && rename(store->fresh, store->path) == 0)
+        return synced(store->folder);
     int error = errno;
-    good = close(file) == 0 && good;
-    errno = good ? 0 : error;
-    return good && rename(store->fresh, store->path) == 0 && synced(store->folder);
+    unlink(store->fresh); /* on a full disk it would take the last room */
+    errno = error;
+    return false;
 }
