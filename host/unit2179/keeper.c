@@ -179,9 +179,11 @@ bool keeper_end(struct keeper *k, const struct osturdam_together *all)
         worker_result(&k->making);
     bool held = k->held;
     enter(k, all, true);
+    /* an entry first: where the disk is slow, there may be no time for more */
+    bool entered = !held && k->used + k->many <= JOURNAL && put(k);
     image_write(k->image, &k->kept);
     if (store_whole(k->store, k->image))
         return true;
     complain(&k->store->at, "the state file cannot be made anew: %s; changes are kept in its journal", strerror(errno));
-    return (!held && k->used + k->many <= JOURNAL && put(k)) || lost(k, k->put_error);
+    return entered || lost(k, k->put_error);
 }

@@ -36,6 +36,15 @@ class Restarted(LiveTest):
             self.assertEqual(wire.ask(READ_TIME).status, 0x80)
             unit.end()
 
+    def test_an_end_keeps_it_though_the_disk_is_slow(self):
+        unit = self.slow_unit('--config', SAMPLE, '--state', 'state', '--reply-within', '10000')
+        self.disk('sync 400')
+        self.assertTrue(self.wire(unit.name).ask(SET_TIME))
+        time.sleep(1.5)
+        self.assertEqual(unit.end(), 0)
+        unit, wire = self.begin()
+        self.assertGreaterEqual(seconds_of(wire.ask(READ_TIME).data), 1.5)
+
     def test_it_has_the_hosts_time_if_that_is_asked_for(self):
         self.configured()
         for zone, hours in (('UTC', 0), ('XYZ-5', 5), ('ABC+3', -3)):

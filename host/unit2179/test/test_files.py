@@ -59,6 +59,7 @@ class Standard(LiveTest):
         def close():
             for file in (0, 1, 2):
                 os.close(file)
+
         process, wire = self.begin('--state', 'state', '--events', 'events', '--log', 'log', preexec_fn=close, stdin=None, stderr=None)
         wire.drain()
         self.tell('events', *['wrong'] * 5)
@@ -73,7 +74,9 @@ class Standard(LiveTest):
         self.unacted(process, wire)
 
     def test_a_limit_of_a_files_size_is_an_error_and_no_death(self):
-        limit = lambda: resource.setrlimit(resource.RLIMIT_FSIZE, (20000, 20000))
+        def limit():
+            resource.setrlimit(resource.RLIMIT_FSIZE, (20000, 20000))
+
         done = subprocess.run([*RUN, '--state', 'state'], cwd=self.folder, stdin=subprocess.DEVNULL, capture_output=True, text=True, timeout=20,
                               preexec_fn=limit)
         self.assertEqual(done.returncode, 4, done.stderr)

@@ -42,6 +42,7 @@ class Peers(LiveTest):
         self.tell('events', *['record 2 1 1 2 3'] * 32)
         until(lambda: len(unit.log('E')) == 32)
         client, done = self.deaf_client(unit.name), threading.Event()
+
         def send():
             chars = DUMP
             while not done.wait(0.02):
@@ -50,6 +51,7 @@ class Peers(LiveTest):
                 except OSError:
                     pass
                 chars = AGAIN
+
         sender = threading.Thread(target=send)
         sender.start()
         self.addCleanup(sender.join)
@@ -103,10 +105,12 @@ class Peers(LiveTest):
         unit = self.unit('--tcp', '0')
         self.wire(unit.name)
         port = f':{int(unit.name.rpartition(":")[2]):04X}'
+
         def timers():
             with open('/proc/net/tcp') as table:  # number, local address, remote address, state, queues, timer: 2 is the keepalive timer
                 rows = [line.split() for line in table]
             return [row[5][:2] for row in rows if row[1].endswith(port) and row[3] == '01']
+
         until(lambda: timers() == ['02'])
 
     def test_a_process_at_its_limit_of_descriptors(self):
@@ -147,6 +151,7 @@ class Local(LiveTest):
         unit = self.slow_unit('--config', SAMPLE, '--state', 'state', '--events', 'events', '--reply-within', '10000')
         self.disk('sync 20')
         wire, done = self.wire(unit.name), threading.Event()
+
         def flood():
             events = os.open(self.path('events'), os.O_WRONLY)
             while not done.is_set():
@@ -155,6 +160,7 @@ class Local(LiveTest):
                 except BrokenPipeError:
                     break
             os.close(events)
+
         writer = threading.Thread(target=flood)
         writer.start()
         self.addCleanup(writer.join)
