@@ -12,12 +12,11 @@ MADE = target/packaging
 LIBRARY = $(or $(BOARD_LIB),target/staticlib)/libboard.a
 INSTALL = install
 
-# the number of the interface for C, and that of a unit's layout
-number = $(shell sed -n 's/^\(\#define OSTURDAM_VERSION\|    OSTURDAM_LAYOUT =\) \([0-9]*\).*/\2/p' include/osturdam.h)
-VERSION = $(word 1,$(number)).$(word 2,$(number))
+VERSION = $(shell tools/version)
 
 to = $(DESTDIR)$(PREFIX)
 files = $(to)/bin/unit2179 $(to)/lib/libosturdam.a $(to)/include/osturdam.h $(to)/lib/pkgconfig/osturdam.pc \
+	$(to)/lib/cmake/osturdam/osturdam-config.cmake $(to)/lib/cmake/osturdam/osturdam-config-version.cmake \
 	$(to)/share/man/man1/unit2179.1 $(to)/share/man/man3/osturdam.3 $(to)/lib/systemd/system/unit2179@.service \
 	$(to)/share/doc/osturdam/unit2179.conf
 
@@ -42,9 +41,11 @@ install:
 	$(INSTALL) -m 644 $(MADE)/unit2179.1 $(to)/share/man/man1/unit2179.1
 	$(INSTALL) -m 644 $(MADE)/osturdam.3 $(to)/share/man/man3/osturdam.3
 	$(INSTALL) -m 644 samples/unit2179.conf $(to)/share/doc/osturdam/unit2179.conf
+	$(INSTALL) -m 644 packaging/osturdam-config.cmake $(to)/lib/cmake/osturdam/osturdam-config.cmake
+	sed 's|@VERSION@|$(VERSION)|' packaging/osturdam-config-version.cmake >$(to)/lib/cmake/osturdam/osturdam-config-version.cmake
 	sed 's|@PREFIX@|$(PREFIX)|; s|@VERSION@|$(VERSION)|' packaging/osturdam.pc.in >$(to)/lib/pkgconfig/osturdam.pc
 	sed 's|@PREFIX@|$(PREFIX)|' packaging/unit2179@.service.in >$(to)/lib/systemd/system/unit2179@.service
-	chmod 644 $(to)/lib/pkgconfig/osturdam.pc $(to)/lib/systemd/system/unit2179@.service
+	chmod 644 $(to)/lib/cmake/osturdam/osturdam-config-version.cmake $(to)/lib/pkgconfig/osturdam.pc $(to)/lib/systemd/system/unit2179@.service
 	@test $$(uname -m) = x86_64 || echo "unit2179 and libosturdam.a are for x86-64; this machine is $$(uname -m)"
 
 uninstall:
