@@ -1,6 +1,6 @@
 //! Runs the proved unit and the independent one side by side and compares everything.
 //!
-//! usage: compare [--seed N] [--events N] [--calls N] [--break]
+//! usage: compare [--seed N] [--events N] [--calls N] [--break | --record FILE]
 
 mod aims;
 mod bends;
@@ -12,6 +12,7 @@ mod frames;
 mod image;
 mod pair;
 mod raw;
+mod record;
 mod reduce;
 mod report;
 mod rng;
@@ -24,8 +25,11 @@ mod tally;
 
 use aims::{Aim, AIMS};
 use faults::{Fault, FAULTS};
+use record::Recording;
 use rng::Rng;
 use runs::run;
+use std::fs::File;
+use std::io::BufWriter;
 use std::process::ExitCode;
 use std::time::Instant;
 use tally::Tally;
@@ -46,6 +50,7 @@ struct Settings {
     events: u64,
     calls: u64,
     broken: bool,
+    record: Option<String>,
 }
 
 fn settings() -> Result<Settings, String> {
@@ -54,6 +59,7 @@ fn settings() -> Result<Settings, String> {
         events: 200_000,
         calls: 100_000,
         broken: false,
+        record: None,
     };
     let mut words = std::env::args().skip(1);
     while let Some(word) = words.next() {
@@ -68,6 +74,7 @@ fn settings() -> Result<Settings, String> {
             "--events" => made.events = number()?,
             "--calls" => made.calls = number()?,
             "--break" => made.broken = true,
+            "--record" => made.record = words.next(),
             _ => return Err(format!("{word} is not known")),
         }
     }
@@ -145,11 +152,30 @@ fn find(s: &Settings, fault: &'static Fault) -> Result<(), String> {
     Ok(())
 }
 
+/// Writes random runs down, with at least as many calls as events are asked for; each is compared before it is written.
+fn record(s: &Settings, path: &str) -> Result<(), String> {
+    let told = |why: std::io::Error| format!("{path}: {why}");
+    let file = File::create(path).map_err(told)?;
+    let mut made = Recording::new(BufWriter::new(file)).map_err(told)?;
+    let mut runs = 0;
+    while u64::from(made.calls()) < s.events {
+        let played = run(Rng::of(s.seed, RUNS, runs), None, None, &mut Tally::new());
+        let played = played.map_err(|_| format!("run {runs} differs (seed {})", s.seed))?;
+        made.run(&played).map_err(told)?;
+        runs += 1;
+    }
+    made.end().map_err(told)?;
+    println!("{} calls in {runs} runs are recorded", made.calls());
+    Ok(())
+}
+
 fn main() -> ExitCode {
     let start = Instant::now();
     let told = settings().and_then(|s| {
         println!("seed {}", s.seed);
-        if s.broken {
+        if let Some(path) = &s.record {
+            record(&s, path)
+        } else if s.broken {
             FAULTS.iter().try_for_each(|fault| find(&s, fault))
         } else {
             compare(&s)

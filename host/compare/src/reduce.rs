@@ -5,7 +5,7 @@ use crate::board::BLOCK;
 use crate::event::Event;
 use crate::faults::Fault;
 use crate::pair::Pair;
-use crate::runs::Failure;
+use crate::runs::Run;
 use crate::scene::Scene;
 use independent::{FixedArea, State};
 
@@ -26,7 +26,7 @@ pub fn fails(
 }
 
 /// The short run.
-pub fn reduce(mut failure: Failure, fault: Option<&'static Fault>) -> Failure {
+pub fn reduce(mut failure: Run, fault: Option<&'static Fault>) -> Run {
     fewer_events(&mut failure, fault);
     simpler_start(&mut failure, fault);
     fewer_events(&mut failure, fault);
@@ -34,7 +34,7 @@ pub fn reduce(mut failure: Failure, fault: Option<&'static Fault>) -> Failure {
 }
 
 /// Leaves out halves, quarters and so on down to single events, until none can be spared.
-fn fewer_events(failure: &mut Failure, fault: Option<&'static Fault>) {
+fn fewer_events(failure: &mut Run, fault: Option<&'static Fault>) {
     let mut part = failure.events.len();
     while part > 0 {
         let before = failure.events.len();
@@ -51,7 +51,7 @@ fn fewer_events(failure: &mut Failure, fault: Option<&'static Fault>) {
 }
 
 /// Leaves out some events, and all behind the first difference, if the run still fails.
-fn without(failure: &mut Failure, at: usize, part: usize, fault: Option<&'static Fault>) -> bool {
+fn without(failure: &mut Run, at: usize, part: usize, fault: Option<&'static Fault>) -> bool {
     let mut events = failure.events.clone();
     events.drain(at..(at + part).min(events.len()));
     let Some((needed, _)) = fails(&failure.scene, &events, fault) else {
@@ -63,7 +63,7 @@ fn without(failure: &mut Failure, at: usize, part: usize, fault: Option<&'static
 }
 
 /// Makes the start fresh in whole or in parts, and the configuration small.
-fn simpler_start(failure: &mut Failure, fault: Option<&'static Fault>) {
+fn simpler_start(failure: &mut Run, fault: Option<&'static Fault>) {
     for simpler in SIMPLER {
         try_start(failure, fault, simpler);
     }
@@ -81,7 +81,7 @@ fn simpler_start(failure: &mut Failure, fault: Option<&'static Fault>) {
 }
 
 /// Keeps a simpler start if the run still fails.
-fn try_start(failure: &mut Failure, fault: Option<&'static Fault>, simpler: impl Fn(&mut Scene)) {
+fn try_start(failure: &mut Run, fault: Option<&'static Fault>, simpler: impl Fn(&mut Scene)) {
     let mut scene = failure.scene.clone();
     simpler(&mut scene);
     if let Some((needed, _)) = fails(&scene, &failure.events, fault) {

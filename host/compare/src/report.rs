@@ -6,12 +6,12 @@ use crate::event::hex;
 use crate::faults::Fault;
 use crate::image::kept_of;
 use crate::reduce::fails;
-use crate::runs::Failure;
+use crate::runs::Run;
 use crate::scene::Scene;
 use independent::State;
 
 /// Prints where a run starts, its events, and where the two units differ.
-pub fn print(failure: &Failure, fault: Option<&'static Fault>) {
+pub fn print(failure: &Run, fault: Option<&'static Fault>) {
     print_equipment(&failure.scene.equipment);
     print_start(&failure.scene);
     for (i, event) in failure.events.iter().enumerate() {

@@ -11,8 +11,8 @@ use crate::scene::Scene;
 use crate::stirs::{stirs, undo};
 use crate::tally::Tally;
 
-/// A run in which the two units differed at its last event.
-pub struct Failure {
+/// A run as it was played: where it started and what happened. One in which the two units differ ends there.
+pub struct Run {
     pub scene: Scene,
     pub events: Vec<Event>,
 }
@@ -64,11 +64,11 @@ pub fn run(
     most: Option<Aim>,
     fault: Option<&'static Fault>,
     tally: &mut Tally,
-) -> Result<(), Box<Failure>> {
+) -> Result<Run, Box<Run>> {
     let (scene, calls) = start(&mut rng);
     let mut events = Vec::with_capacity(2 * calls);
     let Ok(mut pair) = Pair::new(&scene, fault) else {
-        return Err(Box::new(Failure { scene, events }));
+        return Err(Box::new(Run { scene, events }));
     };
     let mut maker = Maker { rng, bent: None };
     for _ in 0..calls {
@@ -81,7 +81,7 @@ pub fn run(
         events.push(event);
         let event = &events[events.len() - 1];
         let Ok(Some(answer)) = pair.take(event) else {
-            return Err(Box::new(Failure { scene, events }));
+            return Err(Box::new(Run { scene, events }));
         };
         tally.call(aim, event, &pair, &answer);
         if most.is_none() {
@@ -91,5 +91,5 @@ pub fn run(
             tally.turned_away(maker.bent.as_ref().map(|x| x.0), scene.faulty);
         }
     }
-    Ok(())
+    Ok(Run { scene, events })
 }
