@@ -1,0 +1,18 @@
+/* What outlives a reset: the unit, and what the program itself must not forget. */
+#ifndef KEEP_H
+#define KEEP_H
+
+#include "osturdam.h"
+
+struct kept {
+    struct osturdam_together unit;
+    uint8_t trips[2]; /* how many there were, low character first */
+};
+
+/* Fills it with the latest copy that is whole; 0 where there is none. */
+int keep_wake(struct kept *k);
+
+/* Returns when a copy is whole. Cut off before that, the one before is. */
+void keep_write(const struct kept *k);
+
+#endif

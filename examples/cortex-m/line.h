@@ -1,0 +1,22 @@
+/* The line: stretches of characters between two idle marks, and the milliseconds. */
+#ifndef LINE_H
+#define LINE_H
+
+#include "osturdam.h"
+
+/* A character more than the longest frame has: a longer stretch is refused for its length alone. */
+enum { LINE_KEPT = OSTURDAM_FRAME + 1 };
+
+struct stretch {
+    uint8_t chars[LINE_KEPT];
+    volatile uint8_t many, whole; /* how many there are; whether an idle mark stands behind them */
+};
+
+/* The stretch that is whole, or none; line_done lets it go. */
+struct stretch *line_stretch(void);
+void line_done(struct stretch *s);
+
+/* The milliseconds that passed since this was asked last. */
+uint32_t line_passed(void);
+
+#endif
