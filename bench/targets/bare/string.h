@@ -1,0 +1,8 @@
+#ifndef STRING_H
+#define STRING_H
+
+#include "memory.h"
+
+int strcmp(const char *one, const char *other);
+
+#endif
