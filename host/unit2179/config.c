@@ -55,8 +55,7 @@ static bool range_of(char *word, uint32_t *first, uint32_t *last)
     return good;
 }
 
-static void equip(struct reading *r, char **words, size_t many, bool (*fits)(uint32_t),
-                  void (*take)(struct osturdam_config *, uint8_t))
+static void equip(struct reading *r, char **words, size_t many, bool (*fits)(uint32_t), void (*take)(struct osturdam_config *, uint8_t))
 {
     if (many < 2)
         wrong(r, "%s: no number is given", words[0]);

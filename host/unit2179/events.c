@@ -43,8 +43,12 @@ static const struct {
     {"word", "an input, 0 to FFh, and a word, 0 to FFFFh", 2, 2, {INPUT_MOST, 0xFFFF, 0}, set_word},
     {"pulse", "an input, 0 to FFh, and a count, 0 to 65535", 2, 2, {INPUT_MOST, 0xFFFF, 0}, pulses},
     {"value", "a calculation, 0 to FFh, and a pattern of 32 bits", 2, 2, {INPUT_MOST, 0xFFFFFFFF, 0}, set_value},
-    {"record", "the number of a file, an event type, 0 to FFh, and values, 0 to FFFFh, as many as its records have", 3, EVENT_FIGURES,
-     {FILE_MOST, 0xFF, 0xFFFF}, store_record},
+    {"record",
+     "the number of a file, an event type, 0 to FFh, and values, 0 to FFFFh, as many as its records have",
+     3,
+     EVENT_FIGURES,
+     {FILE_MOST, 0xFF, 0xFFFF},
+     store_record},
 };
 
 enum { KINDS = sizeof kinds / sizeof *kinds };
@@ -175,12 +179,9 @@ const char *event_refusal(const struct event *event, unsigned outcome)
     if (kinds[event->kind].apply != store_record)
         return "that number is not equipped, or is of another kind";
     switch (outcome) {
-    case OSTURDAM_FILE_FULL:
-        return "the file is full: nothing was stored";
-    case OSTURDAM_NO_FILE:
-        return "that file is not equipped";
-    default:
-        return "records of that file have another number of values";
+    case OSTURDAM_FILE_FULL: return "the file is full: nothing was stored";
+    case OSTURDAM_NO_FILE: return "that file is not equipped";
+    default: return "records of that file have another number of values";
     }
 }
 

@@ -19,8 +19,8 @@ struct event {
 /* Where lines come from. */
 struct events {
     struct place at;
-    int file;   /* -1: nothing more comes */
-    int writer; /* of a FIFO, held so that it does not end when a writer does */
+    int file;        /* -1: nothing more comes */
+    int writer;      /* of a FIFO, held so that it does not end when a writer does */
     char come[1024]; /* what was read, */
     size_t from, to; /* and which of it is in no line yet */
     char line[EVENT_LINE];

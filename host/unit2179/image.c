@@ -6,6 +6,7 @@
 #include <string.h>
 
 /* Each part's name, and where it lies; the unit's regions first. */
+/* clang-format off */
 #define PARTS(PART)                                                                                                     \
     PART(layout, all.unit.layout) PART(config.number, all.unit.config.number)                                           \
     PART(config.length, all.unit.config.length) PART(config.inputs, all.unit.config.inputs)                             \
@@ -14,6 +15,7 @@
     PART(numbers, all.unit.numbers) PART(words, all.unit.words) PART(results, all.unit.results)                         \
     PART(fixed, all.unit.fixed) PART(counts, all.unit.counts) PART(block, all.block) PART(records, all.records)         \
     PART(journal.history, history) PART(journal.entry, entry)
+/* clang-format on */
 
 #define LENGTH(path) sizeof(((struct kept *)0)->path)
 #define ROW(name, path) {#name, offsetof(struct kept, path), LENGTH(path)},
@@ -138,9 +140,9 @@ static const char *take_version_1(struct reading *r)
     static const struct {
         const char *name;
         size_t many;
-    } old[] = {{"config.number", 2}, {"config.length", 2}, {"config.inputs", 256}, {"config.outputs", 256}, {"config.calculations", 256},
-               {"config.files", 32}, {"config.values", 32}, {"numbers", 52}, {"words", 512}, {"results", 512}, {"fixed", 528},
-               {"block", 512}, {"records", 38912}, {"counts", 32}};
+    } old[] = {{"config.number", 2}, {"config.length", 2},  {"config.inputs", 256}, {"config.outputs", 256}, {"config.calculations", 256},
+               {"config.files", 32}, {"config.values", 32}, {"numbers", 52},        {"words", 512},          {"results", 512},
+               {"fixed", 528},       {"block", 512},        {"records", 38912},     {"counts", 32}};
     const char *wrong = NULL;
     for (size_t i = 0; !wrong && i < sizeof old / sizeof *old; i++)
         wrong = take(r, old[i].name, old[i].many);

@@ -72,7 +72,8 @@ bool journals_open(struct store *store)
     for (size_t i = 0; i < JOURNALS; i++) {
         if (open_journal(store, i))
             continue;
-        complain(&(struct place){store->names[i], 0}, "%s", errno == EEXIST ? "is no journal of a unit, and is in the way of one" : strerror(errno));
+        complain(&(struct place){store->names[i], 0}, "%s",
+                 errno == EEXIST ? "is no journal of a unit, and is in the way of one" : strerror(errno));
         return false;
     }
     return true;

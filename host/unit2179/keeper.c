@@ -66,8 +66,7 @@ bool keeper_differs(const struct keeper *k, const struct osturdam_together *all)
 {
     const struct osturdam_together *was = &k->kept.all;
     size_t before = offsetof(struct osturdam_unit, numbers), behind = offsetof(struct osturdam_unit, words);
-    return memcmp(was, all, before) != 0 ||
-           memcmp((const uint8_t *)was + behind, (const uint8_t *)all + behind, sizeof *was - behind) != 0;
+    return memcmp(was, all, before) != 0 || memcmp((const uint8_t *)was + behind, (const uint8_t *)all + behind, sizeof *was - behind) != 0;
 }
 
 /* The state file is made of all that is kept, and the journal before this one is emptied. */

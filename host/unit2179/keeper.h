@@ -10,24 +10,24 @@
 enum { KEEPER_FILES = 2 };
 
 struct keeper {
-    struct store *store;  /* NULL: nothing is kept */
-    struct kept kept;     /* the unit with the latest entry */
+    struct store *store; /* NULL: nothing is kept */
+    struct kept kept;    /* the unit with the latest entry */
     struct worker putting, making;
     /* what `putting` works on */
     uint8_t entries[2 * ENTRY_MOST];
-    size_t many;      /* characters of the entry, twice */
-    size_t journal;   /* which it goes into */
-    size_t used;      /* of that journal */
-    bool synced;      /* whether it must be on the disk */
-    bool other;       /* whether the other journal's latest entries may not be yet */
-    bool held;        /* it waits for room */
+    size_t many;    /* characters of the entry, twice */
+    size_t journal; /* which it goes into */
+    size_t used;    /* of that journal */
+    bool synced;    /* whether it must be on the disk */
+    bool other;     /* whether the other journal's latest entries may not be yet */
+    bool held;      /* it waits for room */
     int put_error;
     /* what `making` works on */
     uint8_t image[IMAGE];
-    size_t filled;    /* of the other journal, which is emptied once the state file is made; JOURNAL_HEAD: it is empty */
+    size_t filled; /* of the other journal, which is emptied once the state file is made; JOURNAL_HEAD: it is empty */
     int make_error;
-    int64_t again;    /* when making is tried again, after it failed */
-    bool said;        /* that it fails */
+    int64_t again; /* when making is tried again, after it failed */
+    bool said;     /* that it fails */
 };
 
 /* Keeps all of a unit, which `keeper->kept` has, and makes ready to keep its changes. false: it could not be, which was told. */

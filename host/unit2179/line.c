@@ -25,8 +25,8 @@ enum { SEND_MS = 5000 }; /* a reply of 520 characters at 1200 baud takes 4,334 m
 static const struct {
     uint32_t baud;
     speed_t speed;
-} speeds[] = {{300, B300},     {600, B600},     {1200, B1200},   {2400, B2400},   {4800, B4800},
-              {9600, B9600},   {19200, B19200}, {38400, B38400}, {57600, B57600}, {115200, B115200}};
+} speeds[] = {{300, B300},   {600, B600},     {1200, B1200},   {2400, B2400},   {4800, B4800},
+              {9600, B9600}, {19200, B19200}, {38400, B38400}, {57600, B57600}, {115200, B115200}};
 
 enum { SPEEDS = sizeof speeds / sizeof *speeds };
 
@@ -182,8 +182,12 @@ static void watch_peer(int file)
 {
     const struct {
         int level, name, value;
-    } options[] = {{IPPROTO_TCP, TCP_NODELAY, 1},     {SOL_SOCKET, SO_KEEPALIVE, 1}, {IPPROTO_TCP, TCP_KEEPIDLE, 10},
-                   {IPPROTO_TCP, TCP_KEEPINTVL, 5},   {IPPROTO_TCP, TCP_KEEPCNT, 3}, {IPPROTO_TCP, TCP_USER_TIMEOUT, 25000},
+    } options[] = {{IPPROTO_TCP, TCP_NODELAY, 1},
+                   {SOL_SOCKET, SO_KEEPALIVE, 1},
+                   {IPPROTO_TCP, TCP_KEEPIDLE, 10},
+                   {IPPROTO_TCP, TCP_KEEPINTVL, 5},
+                   {IPPROTO_TCP, TCP_KEEPCNT, 3},
+                   {IPPROTO_TCP, TCP_USER_TIMEOUT, 25000},
                    {SOL_SOCKET, SO_SNDBUF, 8 * OSTURDAM_REPLY}};
     for (size_t i = 0; i < sizeof options / sizeof *options; i++)
         setsockopt(file, options[i].level, options[i].name, &options[i].value, sizeof options[i].value);

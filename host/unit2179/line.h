@@ -26,9 +26,9 @@ struct channel {
 
 struct line {
     char name[LINE_NAME];
-    int listener; /* of a TCP port, else -1 */
+    int listener;              /* of a TCP port, else -1 */
     const struct peers *peers; /* who may connect */
-    int held; /* the other side of a pseudo-terminal, held so that it stands between two masters, else -1 */
+    int held;                  /* the other side of a pseudo-terminal, held so that it stands between two masters, else -1 */
     struct channel channels[CHANNELS];
 };
 

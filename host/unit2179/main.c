@@ -105,7 +105,11 @@ static int run(const struct options *o)
     if (!connect_line(o))
         return EXIT_LINE;
     static struct server server;
-    server = (struct server){.all = &all, .lent = osturdam_lend(&all, &all.unit.config), .keeper = &keeper, .line = &line, .events = &events,
+    server = (struct server){.all = &all,
+                             .lent = osturdam_lend(&all, &all.unit.config),
+                             .keeper = &keeper,
+                             .line = &line,
+                             .events = &events,
                              .quiet = {(int64_t)o->gap * NS_OF_MS, (int64_t)o->suspension * NS_OF_MS},
                              .within = (int64_t)o->reply_within * NS_OF_MS,
                              .idle = (int64_t)o->idle * 1000 * NS_OF_MS};

@@ -14,7 +14,8 @@
 
 enum { LEAST_GAP = 20, LONGEST_WAIT = 10000, LONGEST_IDLE = 1000000 };
 
-static const struct options defaults = {.line = {.baud = 9600, .parity = 'n'}, .suspension = 1000, .reply_within = 100, .idle = 600, .address = "127.0.0.1"};
+static const struct options defaults = {
+    .line = {.baud = 9600, .parity = 'n'}, .suspension = 1000, .reply_within = 100, .idle = 600, .address = "127.0.0.1"};
 
 static bool wrong(const char *option, const char *what)
 {
@@ -28,9 +29,9 @@ static const char **text_of(struct options *o, const char *option)
     const struct {
         const char *option;
         const char **text;
-    } texts[] = {{"--config", &o->config}, {"--serial", &o->serial}, {"--tcp", &o->tcp},
-                 {"--events", &o->events}, {"--state", &o->state},   {"--log", &o->log},
-                 {"--clock", &o->clock},   {"--zone", &o->zone},     {"--parity", &o->parity}, {"--capture", &o->capture}};
+    } texts[] = {{"--config", &o->config}, {"--serial", &o->serial},  {"--tcp", &o->tcp},     {"--events", &o->events},
+                 {"--state", &o->state},   {"--log", &o->log},        {"--clock", &o->clock}, {"--zone", &o->zone},
+                 {"--parity", &o->parity}, {"--capture", &o->capture}};
     for (size_t i = 0; i < sizeof texts / sizeof *texts; i++) {
         if (strcmp(option, texts[i].option) == 0)
             return texts[i].text;
@@ -112,9 +113,7 @@ static bool take_number(const struct options *o, const char *option, const char 
     bool baud = number == &o->line.baud, idle = number == &o->idle;
     if (number_of(word, baud ? 115200 : idle ? LONGEST_IDLE : LONGEST_WAIT, number) && *number > 0)
         return true;
-    return wrong(option, baud   ? BAUDS
-                         : idle ? "takes seconds, 1 to 1000000"
-                                : "takes milliseconds, 1 to 10000");
+    return wrong(option, baud ? BAUDS : idle ? "takes seconds, 1 to 1000000" : "takes milliseconds, 1 to 10000");
 }
 
 bool options_read(struct options *o, int many, char **words)

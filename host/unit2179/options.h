@@ -15,7 +15,7 @@ struct options {
     uint32_t gap; /* milliseconds */
     uint32_t suspension;
     uint32_t reply_within;
-    uint32_t idle; /* seconds */
+    uint32_t idle;     /* seconds */
     char address[256]; /* of the TCP port */
     const char *port;
     struct peers peers;

@@ -105,8 +105,7 @@ static void look_for_mark(struct server *s, struct channel *channel, short found
 /* Whether a channel has ended and all of it is heard and answered. */
 static bool is_over(const struct server *s, const struct channel *channel)
 {
-    return channel->ended && channel->coming.heard == 0 && channel->marked.heard == 0 && channel->left == 0 &&
-           s->answer.channel != channel;
+    return channel->ended && channel->coming.heard == 0 && channel->marked.heard == 0 && channel->left == 0 && s->answer.channel != channel;
 }
 
 static enum served look_at(struct server *s, struct channel *channel, short found, int64_t looked)

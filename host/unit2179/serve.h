@@ -35,12 +35,12 @@ struct server {
     enum waiting waits;
     struct answer answer;
     struct event event;
-    unsigned outcome; /* of the event */
-    size_t next;      /* the channel that is heard first */
-    bool heard;       /* the latest turn was a stretch's */
+    unsigned outcome;                /* of the event */
+    size_t next;                     /* the channel that is heard first */
+    bool heard;                      /* the latest turn was a stretch's */
     struct channel *owners[MASTERS]; /* the connection that has each master's number, or NULL */
-    int64_t idle;     /* nanoseconds after which a quiet connection is closed; 0: never */
-    int64_t deaf;     /* no connection is taken before */
+    int64_t idle;                    /* nanoseconds after which a quiet connection is closed; 0: never */
+    int64_t deaf;                    /* no connection is taken before */
     bool deaf_told;
 };
 

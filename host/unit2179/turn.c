@@ -143,11 +143,8 @@ enum served turn_end(struct server *s)
     enum waiting waited = s->waits;
     s->waits = NOTHING_WAITS;
     switch (waited) {
-    case A_REPLY_WAITS:
-        return end_stretch(s);
-    case AN_EVENT_WAITS:
-        return end_event(s);
-    default:
-        return SERVE_GOES_ON;
+    case A_REPLY_WAITS: return end_stretch(s);
+    case AN_EVENT_WAITS: return end_event(s);
+    default: return SERVE_GOES_ON;
     }
 }

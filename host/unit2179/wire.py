@@ -3,12 +3,10 @@ import collections
 import os
 import select
 import socket
-import sys
 import time
 import tty
 
-sys.path.insert(0, os.path.join(os.path.dirname(os.path.abspath(__file__)), '..', '..', 'tools'))
-from frames import check  # noqa: E402
+from frames import check
 
 Reply = collections.namedtuple('Reply', 'address function status port data chars')
 

@@ -1,6 +1,6 @@
 """A unit whose state lies on a disk that is kept busy, and a master with a time-out of 200 ms: what is lost, and how long replies take.
 
-usage: tools/live busy [SECONDS [FOLDER]]     (60, and a folder of target/)
+usage: checks/live busy [SECONDS [FOLDER]]     (60, and a folder of target/)
 """
 import os
 import signal

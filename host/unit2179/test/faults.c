@@ -27,9 +27,9 @@ ssize_t __wrap_write(int file, const void *chars, size_t many);
 ssize_t __wrap_pwrite(int file, const void *chars, size_t many, off_t at);
 int __wrap_rename(const char *from, const char *to);
 
-static struct timespec since;  /* when the file of faults was last changed */
-static atomic_ulong calls;     /* synchronisations since then */
-static atomic_ulong written;   /* characters since then */
+static struct timespec since; /* when the file of faults was last changed */
+static atomic_ulong calls;    /* synchronisations since then */
+static atomic_ulong written;  /* characters since then */
 
 static bool is_regular(int file)
 {

@@ -21,8 +21,8 @@ MEMORY = '/dev/shm'  # a kill loses nothing that was written, so no test need wa
 UNIT, A, B = 1234, 1, 2
 
 sys.path.insert(0, os.path.dirname(HERE))
-from wire import Wire  # noqa: E402  (it finds tools/frames.py)
-from frames import frame  # noqa: E402
+from wire import Wire  # noqa: E402
+from frames import frame  # noqa: E402, F401
 
 
 def until(found, seconds=10):

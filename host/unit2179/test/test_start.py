@@ -39,8 +39,8 @@ class Start(LiveTest):
         self.assertEqual(os.listdir(self.folder), [], 'nothing is kept unless it is asked for')
 
     def test_wrong_command_lines(self):
-        for options in (['--wrong'], ['--baud'], ['--baud', '301'], ['--parity', 'mark'], ['--gap', '0'], ['--gap', '10001'], ['--tcp', 'x'], ['--fresh'], ['--clock', 'now'], ['--zone', 'UTC'],
-                        ['--pty', '--tcp', '0'], ['1234']):
+        for options in (['--wrong'], ['--baud'], ['--baud', '301'], ['--parity', 'mark'], ['--gap', '0'], ['--gap', '10001'], ['--tcp', 'x'],
+                        ['--fresh'], ['--clock', 'now'], ['--zone', 'UTC'], ['--pty', '--tcp', '0'], ['1234']):
             with self.subTest(options):
                 status, said = self.refused(*options)
                 self.assertEqual(status, 2)
@@ -48,8 +48,8 @@ class Start(LiveTest):
 
     def test_what_cannot_be_opened(self):
         plain = self.write('plain', '')
-        for status, *options in ((1, '--log', 'none/log'), (1, '--capture', 'none/capture'), (1, '--events', plain), (3, '--config', 'none'), (4, '--state', 'none/state'),
-                                 (5, '--serial', 'none'), (5, '--serial', plain), (5, '--tcp', '1.2.3:0')):
+        for status, *options in ((1, '--log', 'none/log'), (1, '--capture', 'none/capture'), (1, '--events', plain), (3, '--config', 'none'),
+                                 (4, '--state', 'none/state'), (5, '--serial', 'none'), (5, '--serial', plain), (5, '--tcp', '1.2.3:0')):
             with self.subTest(options):
                 found, said = self.refused(*options)
                 self.assertEqual(found, status)

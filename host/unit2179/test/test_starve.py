@@ -241,4 +241,3 @@ class End(LiveTest):
         self.tell('events', 'pulse 40h 1')
         time.sleep(0.3)
         ends(self, unit)
-
