@@ -88,7 +88,7 @@ bool line_open_serial(struct line *line, const char *device, const struct serial
     line_empty(line, device);
     int file = open(device, O_RDWR | O_NOCTTY | O_NONBLOCK | O_CLOEXEC);
     if (file < 0)
-        return failed(device, "cannot be opened");
+        return failed(device, errno == EBUSY ? "another program has it" : "cannot be opened");
     if (!take_alone(file))
         return failed(device, "another program has it");
     if (!make_raw(file, speeds[speed_of(serial->baud)].speed, serial->parity))
