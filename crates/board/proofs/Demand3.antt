@@ -5,7 +5,7 @@ use mathlib.Core.List.{List, [], _∷_, _++_, map}
 use lib.ListN.{length}
 use Rattle.model.specs.Config.{Config}
 use Rattle.model.specs.State.{Inner, State, heldIn, freshOf}
-use Rattle.model.specs.Step.{Event, stretch}
+use Rattle.model.specs.Event.{Stretch, Event, stretch}
 use Rattle.model.specs.Run.{Entry, Result, resultOf, nextOf, entryOf, afterFrom, traceFrom, after, trace}
 use Rattle.model.specs.Damage.{Damaged, AlikeEntry, AlikeTrace, none, more}
 use Rattle.model.proofs.Damage.{damage, after-append, trace-append}
@@ -59,13 +59,13 @@ module _ (cs : List ℕ) {es : List Event} {xs : List Shown} {y : Owned} (r : Ca
 
 -- ---- a damaged stretch among calls
 
-module _ (cs : List ℕ) (ds : List Event) (room : ℕ) {t : List ℕ} (es : List Event) {xs ys : List Shown} {y z : Owned}
-    (d : Damaged t) (a : Called cs (ds ++ (stretch room t ∷ es)) xs y) (b : Called cs (ds ++ es) ys z) where
+module _ (cs : List ℕ) (ds : List Event) (t : Stretch) (es : List Event) {xs ys : List Shown} {y z : Owned}
+    (d : Damaged (t .chars)) (a : Called cs (ds ++ (stretch t ∷ es)) xs y) (b : Called cs (ds ++ es) ys z) where
   abbrev c : Config
   c = configGiven cs
 
   abbrev e : Event
-  e = stretch room t
+  e = stretch t
 
   split : (zs : List Event) → told (trace c (ds ++ zs)) ≡ told (trace c ds) ++ told (traceFrom c (after c ds) zs)
   split zs = ap told (trace-append c (freshOf c) ds zs) ∙ told-append (trace c ds) (traceFrom c (after c ds) zs)
@@ -81,7 +81,7 @@ module _ (cs : List ℕ) (ds : List Event) (room : ℕ) {t : List ℕ} (es : Lis
   unseen : UnseenCall xs ys y z
   unfolding numbered actionNumber
   unseen =
-      let u = damage c ds room d es in
+      let u = damage c ds t d es in
       record {
         earlier = told (trace c ds);
         call = numbered (resultOf c (after c ds) e);
@@ -120,7 +120,7 @@ pub calls-demand-3 : (cs : List ℕ) → CallsDemand3 cs
 calls-demand-3 cs =
     record {
       taken = λ v g r. run-taken cs refl (r .area) (r .fresh) (r .room) (r .runs) v g;
-      damage = λ ds room es d a b. unseen cs ds room es d a b;
+      damage = λ ds t es d a b. unseen cs ds t es d a b;
       records = λ r. accounts cs r;
       calls = λ es e r q. accounts-for cs r e q;
     }

@@ -10,7 +10,8 @@ use Rattle.model.specs.Config.{Config, validOf}
 use Rattle.model.specs.State.{State, freshOf}
 use Rattle.model.specs.Fits.{fits}
 use Rattle.model.specs.Formed.{AllGiven}
-use Rattle.model.specs.Step.{Event, makeOf}
+use Rattle.model.specs.Event.{Event}
+use Rattle.model.specs.Step.{makeOf}
 use Rattle.model.specs.Run.{Result, short, turnedAway, shows, resultOf, nextOf, entryOf, afterFrom, traceFrom, after, trace}
 use Rattle.model.specs.declared.Outcome.the-variants.{NotConfigured}
 use Rattle.model.specs.declared.Answer.{Answer}

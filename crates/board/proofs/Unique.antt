@@ -6,7 +6,7 @@ use mathlib.Core.List.{List}
 use lib.ListN.{length}
 use Rattle.chars.specs.Word.{Characters}
 use Rattle.model.specs.Outcome.{numberOf, answerNumber}
-use Rattle.model.specs.Step.{Event}
+use Rattle.model.specs.Event.{Event}
 use Rattle.layout.specs.Unit.{unitLong}
 use Rattle.serve.specs.Kept.{Owned}
 use Rattle.serve.proofs.Unique.{one-stretch}

@@ -6,7 +6,7 @@ use mathlib.Core.Bool.{true}
 use lib.ListN.{length}
 use Rattle.model.specs.Config.{Config, validOf}
 use Rattle.model.specs.State.{Inner, heldIn}
-use Rattle.model.specs.Step.{Event, stretch}
+use Rattle.model.specs.Event.{Stretch, Event, stretch}
 use Rattle.model.specs.Run.{resultOf, entryOf, after, trace}
 use Rattle.model.specs.Formed.{AllGiven}
 use Rattle.model.specs.Line.{shown, releasedBy, storedBy, storedIn, latestIn, releasedIn}
@@ -83,8 +83,8 @@ pub record AccountsFor (c : Config) (es : List Event) (e : Event) (y z : Owned) 
 -- for the characters of any configuration, and every run of calls
 pub record CallsDemand3 (cs : List ℕ) : Type 0 where
   pub taken : {es : List Event} {xs : List Shown} {y : Owned} → validOf (configGiven cs) ≡ true → AllGiven es → Called cs es xs y → Taken xs
-  pub damage : (ds : List Event) (room : ℕ) {t : List ℕ} (es : List Event) {xs ys : List Shown} {y z : Owned}
-      → Damaged t → Called cs (ds ++ (stretch room t ∷ es)) xs y → Called cs (ds ++ es) ys z → UnseenCall xs ys y z
+  pub damage : (ds : List Event) (t : Stretch) (es : List Event) {xs ys : List Shown} {y z : Owned}
+      → Damaged (t .chars) → Called cs (ds ++ (stretch t ∷ es)) xs y → Called cs (ds ++ es) ys z → UnseenCall xs ys y z
   pub records : {es : List Event} {xs : List Shown} {y : Owned} → Called cs es xs y → Accounts (configGiven cs) es xs y
   pub calls : (es : List Event) (e : Event) {xs ys : List Shown} {y z : Owned}
       → Called cs es xs y → Called cs (es ++ (e ∷ [])) ys z → (g : ℕ) → AccountsFor (configGiven cs) es e y z g

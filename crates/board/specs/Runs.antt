@@ -3,14 +3,15 @@ use mathlib.Core.Path.{_≡_}
 use Prim.Native.Nat.{ℕ}
 use mathlib.Core.List.{List, [], _∷_, map}
 use mathlib.Core.Bool.{true}
-use lib.ListN.{length, take, getD}
+use lib.ListN.{take, getD}
 use Rattle.chars.specs.Word.{wordAt}
 use Rattle.model.specs.Outcome.{numberOf, answerNumber}
-use Rattle.model.specs.Step.{Event, stretch}
+use Rattle.model.specs.Event.{Event}
 use Rattle.model.specs.Run.{Result}
 use Rattle.model.specs.declared.Outcome.the-variants.{NotConfigured}
 use Rattle.layout.specs.Unit.{configIn}
 use Rattle.serve.specs.Kept.{Owned, keptIn, standing, Steady}
+use Rattle.serve.specs.Stretch.{coming}
 use Rattle.unit.specs.Calls.{Local, Calls}
 use Rattle.board.specs.Told.{actionNumber, outputNumber, Shows, Says}
 
@@ -37,7 +38,7 @@ toldIn n = record { answer = n; action = 0; output = 0; reply = [] }
 pub data Runs : Owned → List Event → List Shown → Owned → Type 0 where
   none : {x : Owned} → Runs x [] [] x
   heard : {x y z : Owned} {s entry exit ts : List ℕ} {n : ℕ} {es : List Event} {xs : List Shown}
-      → Shows s x y entry exit n ts → Runs y es xs z → Runs x (stretch (length entry) s ∷ es) (shownIn n ts exit ∷ xs) z
+      → Shows s x y entry exit n ts → Runs y es xs z → Runs x (coming entry s ∷ es) (shownIn n ts exit ∷ xs) z
   heeded : {x y z : Owned} {e : Event} {n : ℕ} {es : List Event} {xs : List Shown}
       → Local e → Says e x y n → Runs y es xs z → Runs x (e ∷ es) (toldIn n ∷ xs) z
 

@@ -16,7 +16,7 @@ ghost use mathlib.Core.Path.{_≡_};
 ghost use mathlib.Core.Bool.{cond};
 ghost use lib.ListN.{length};
 ghost use Rattle.model.specs.Config.{validOf};
-ghost use Rattle.model.specs.Step.{elapsed, setWord, setValue, pulses, store};
+ghost use Rattle.model.specs.Event.{elapsed, setWord, setValue, pulses, store, local};
 ghost use Rattle.layout.specs.Unit.{layoutNumber, configGiven};
 ghost use Rattle.serve.specs.Kept.{ownedOf};
 ghost use Rattle.unit.specs.Fresh.{FreshPromise};
@@ -102,7 +102,7 @@ pub extern "C" fn osturdam_set_word<'a>(
     input: u8,
     word: u16,
 ) -> u8
-    ensures { λ r. ⌜ Says (setWord (record { 0 = input }) word)
+    ensures { λ r. ⌜ Says (local (setWord (record { 0 = input }) word))
         (ownedOf (now (unit .entry)) (now (block .entry)) (now (records .entry)))
         (ownedOf (now (unit .exit)) (now (block .entry)) (now (records .entry))) r ⌝ }
 {
@@ -118,7 +118,7 @@ pub extern "C" fn osturdam_pulses<'a>(
     accumulator: u8,
     count: u16,
 ) -> u8
-    ensures { λ r. ⌜ Says (pulses (record { 0 = accumulator }) count)
+    ensures { λ r. ⌜ Says (local (pulses (record { 0 = accumulator }) count))
         (ownedOf (now (unit .entry)) (now (block .entry)) (now (records .entry)))
         (ownedOf (now (unit .exit)) (now (block .entry)) (now (records .entry))) r ⌝ }
 {
@@ -134,7 +134,7 @@ pub extern "C" fn osturdam_set_value<'a>(
     calculation: u8,
     value: u32,
 ) -> u8
-    ensures { λ r. ⌜ Says (setValue (record { 0 = calculation }) value)
+    ensures { λ r. ⌜ Says (local (setValue (record { 0 = calculation }) value))
         (ownedOf (now (unit .entry)) (now (block .entry)) (now (records .entry)))
         (ownedOf (now (unit .exit)) (now (block .entry)) (now (records .entry))) r ⌝ }
 {
@@ -151,7 +151,7 @@ pub extern "C" fn osturdam_store_record<'a>(
     event: u8,
     given: &'a [u16],
 ) -> u8
-    ensures { λ r. ⌜ Says (store (record { 0 = file }) event (now (given .entry)))
+    ensures { λ r. ⌜ Says (local (store (record { 0 = file }) event (now (given .entry))))
         (ownedOf (now (unit .entry)) (now (block .entry)) (now (records .entry)))
         (ownedOf (now (unit .exit)) (now (block .entry)) (now (records .exit))) r ⌝ }
 {

@@ -92,12 +92,12 @@ time-told s p q r t u v w = rw (p, q, r, t, u, v, w)
 -- ---- Set Time
 
 module _ (k : Clock) (q : Request) where
-  pub set-count : (length (q .body) ≡ 7 → ⊥) → setTimeOf k q ≡ record { outcome = WrongCount; clock = k }
+  pub set-count : (length (q .body) ≡ 7 → ⊥) → setTimeOf k q ≡ record { says = refuses WrongCount; clock = k }
   unfolding setTimeOf counts
   set-count n = simp (ne-eqb (length (q .body)) 7 n)
 
   module _ (seven : length (q .body) ≡ 7) (d : Bool) (told : d ≡ digitsFit (q .body)) where
-    pub set-digits : d ≡ false → setTimeOf k q ≡ record { outcome = NotValid; clock = k }
+    pub set-digits : d ≡ false → setTimeOf k q ≡ record { says = refuses NotValid; clock = k }
     unfolding setTimeOf counts
     set-digits n = simp (eq-eqb (length (q .body)) 7 seven, sym told ∙ n)
 
@@ -105,11 +105,11 @@ module _ (k : Clock) (q : Request) where
       in-range : clockFits (timeIn (q .body)) ≡ f
       in-range = rw (← time) (sym fit)
 
-      pub set-range : f ≡ false → setTimeOf k q ≡ record { outcome = NotValid; clock = k }
+      pub set-range : f ≡ false → setTimeOf k q ≡ record { says = refuses NotValid; clock = k }
       unfolding setTimeOf counts
       set-range n = simp (eq-eqb (length (q .body)) 7 seven, sym told ∙ right, in-range ∙ n)
 
-      pub set-done : f ≡ true → setTimeOf k q ≡ record { outcome = Done; clock = t }
+      pub set-done : f ≡ true → setTimeOf k q ≡ record { says = tells []; clock = t }
       unfolding setTimeOf counts
       set-done y = simp (eq-eqb (length (q .body)) 7 seven, sym told ∙ right, in-range ∙ y, time)
 

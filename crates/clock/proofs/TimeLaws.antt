@@ -9,7 +9,7 @@ use lib.Dec.{leb}
 use borrow.Author.Tests.{leb-true, le-leb, eq-eqb}
 use Rattle.chars.specs.Word.{Characters}
 use Rattle.model.specs.Frame.{Request}
-use Rattle.model.specs.Scan.{tells, counts, withNoData}
+use Rattle.model.specs.Scan.{tells, refuses, counts, withNoData}
 use Rattle.model.specs.Clock.{
   Timed,
   bcd,
@@ -109,12 +109,12 @@ unfolding setTimeOf
 set-fits k q fit =
     fits-either
     (counts 7 q)
-    (cond (digitsFit (q .body) && clockFits (timeIn (q .body))) (record { outcome = Done; clock = timeIn (q .body) }) (record { outcome = NotValid; clock = k }))
-    (record { outcome = WrongCount; clock = k })
+    (cond (digitsFit (q .body) && clockFits (timeIn (q .body))) (record { says = tells []; clock = timeIn (q .body) }) (record { says = refuses NotValid; clock = k }))
+    (record { says = refuses WrongCount; clock = k })
     (λ _. fits-either
     (digitsFit (q .body) && clockFits (timeIn (q .body)))
-    (record { outcome = Done; clock = timeIn (q .body) })
-    (record { outcome = NotValid; clock = k })
+    (record { says = tells []; clock = timeIn (q .body) })
+    (record { says = refuses NotValid; clock = k })
     (λ e. both (digitsFit (q .body)) (clockFits (timeIn (q .body))) e .1)
     fit)
     fit

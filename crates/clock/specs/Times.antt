@@ -9,7 +9,7 @@ use Rattle.clock.specs.declared.Set.{Set}
 
 -- what Set Time hands back of a request that came to t
 abbrev pub setOf : Timed → Set
-setOf t = record { outcome = t .outcome; clock = t .clock }
+setOf t = record { outcome = t .says .outcome; clock = t .clock }
 
 -- Read Time: a clock out of range has numbers that no character holds, and a unit that keeps one is answered with 17
 unfoldable pub readOf : Clock → Request → Scan

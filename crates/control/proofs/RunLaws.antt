@@ -9,9 +9,9 @@ use Rattle.chars.proofs.PutLaws.{put-none}
 use Rattle.model.specs.Limits.{replyHead}
 use Rattle.model.specs.Frame.{Request, masterOf}
 use Rattle.model.specs.Config.{has}
-use Rattle.model.specs.Scan.{counts}
+use Rattle.model.specs.Scan.{tells, counts}
 use Rattle.model.specs.Control.{Controlled, keeps, isOf, selectWhen, operateWhen, resetWhen, selectOf, operates, breaks}
-use Rattle.model.specs.declared.Outcome.the-variants.{Done, NotValid, SelectTimedOut, SelectHeld, NothingWaits}
+use Rattle.model.specs.declared.Outcome.the-variants.{NotValid, SelectTimedOut, SelectHeld, NothingWaits}
 use Rattle.model.specs.declared.Action.the-variants.{Operate}
 use Rattle.model.specs.declared.Master.{Master}
 use Rattle.model.specs.declared.Select.{Select}
@@ -25,27 +25,27 @@ pub runs-as : {entry exit : List ℕ} {m n : Controlled} {r : Ran} → m ≡ n �
 runs-as e t = rw e t
 
 -- where nothing is said, nothing is written
-pub runs-quiet : {entry : List ℕ} {m n : Controlled} {r : Ran} → m ≡ n → n .chars ≡ [] → r ≡ ranOf n → Runs entry entry m r
+pub runs-quiet : {entry : List ℕ} {m n : Controlled} {r : Ran} → m ≡ n → n .says .chars ≡ [] → r ≡ ranOf n → Runs entry entry m r
 runs-quiet {entry} e q h =
     rw e (rw h (record { ended = refl; acted = refl; held = refl; counted = refl; written = rw q (sym (put-none entry replyHead)) }))
 
-silent-either : (b : Bool) (m n : Controlled) → m .chars ≡ [] → n .chars ≡ [] → cond b m n .chars ≡ []
+silent-either : (b : Bool) (m n : Controlled) → m .says .chars ≡ [] → n .says .chars ≡ [] → cond b m n .says .chars ≡ []
 silent-either true m n p q = p
 silent-either false m n p q = q
 
-pub operate-silent : (h : Hold) (m : Master) → operateWhen h m .chars ≡ []
+pub operate-silent : (h : Hold) (m : Master) → operateWhen h m .says .chars ≡ []
 unfolding operateWhen
 operate-silent Free m = refl
 operate-silent (TimedOut p) m = silent-either (isOf p m) (keeps SelectTimedOut Free) (keeps NothingWaits (TimedOut p)) refl refl
 operate-silent (Held s) m =
     silent-either
     (isOf (s .master) m)
-    (record { outcome = Done; action = Operate (s .output) (s .close); chars = []; hold = Free })
+    (record { says = tells []; action = Operate (s .output) (s .close); hold = Free })
     (keeps SelectHeld (Held s))
     refl
     refl
 
-pub reset-silent : (h : Hold) → resetWhen h .chars ≡ []
+pub reset-silent : (h : Hold) → resetWhen h .says .chars ≡ []
 unfolding resetWhen
 reset-silent Free = refl
 reset-silent (TimedOut p) = refl
@@ -73,7 +73,7 @@ module _ (h : Hold) (m p : Master) (b : Bool) (test : b ≡ isOf p m) where
   operate-free e t = simp (e, sym test ∙ t)
 
 module _ (h : Hold) (m : Master) (s : Select) (b : Bool) (held : h ≡ Held s) (test : b ≡ isOf (s .master) m) where
-  pub operate-done : b ≡ true → operateWhen h m ≡ record { outcome = Done; action = Operate (s .output) (s .close); chars = []; hold = Free }
+  pub operate-done : b ≡ true → operateWhen h m ≡ record { says = tells []; action = Operate (s .output) (s .close); hold = Free }
   unfolding operateWhen
   operate-done t = simp (held, sym test ∙ t)
 

@@ -10,12 +10,12 @@ use Rattle.control.specs.declared.Ran.{Ran}
 
 -- what is handed back of a request that came to m
 abbrev pub ranOf : Controlled → Ran
-ranOf m = record { outcome = m .outcome; action = m .action; hold = m .hold; count = length (m .chars) }
+ranOf m = record { outcome = m .says .outcome; action = m .action; hold = m .hold; count = length (m .says .chars) }
 
 -- a reply buffer after a control request that came to m: its data stand behind the room for the head, and nothing else was written
 pub record Runs (entry exit : List ℕ) (m : Controlled) (r : Ran) : Type 0 where
-  pub ended : r .outcome ≡ m .outcome
+  pub ended : r .outcome ≡ m .says .outcome
   pub acted : r .action ≡ m .action
   pub held : r .hold ≡ m .hold
-  pub counted : r .count ≡ length (m .chars)
-  pub written : exit ≡ put entry replyHead (m .chars)
+  pub counted : r .count ≡ length (m .says .chars)
+  pub written : exit ≡ put entry replyHead (m .says .chars)

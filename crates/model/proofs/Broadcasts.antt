@@ -10,7 +10,8 @@ use Rattle.chars.specs.Word.{wordAt}
 use Rattle.model.specs.Frame.{Request, unitOf, broadcastUnit, whole, checked, frameIn, heardOf, requestIn}
 use Rattle.model.specs.Config.{Config}
 use Rattle.model.specs.State.{Inner, State}
-use Rattle.model.specs.Step.{Event, stretch, Step, refused, changed, timed, Made, quiet, broadcastOf, broadcastMade, framed, judged, makeOf}
+use Rattle.model.specs.Event.{Stretch, stretch}
+use Rattle.model.specs.Step.{Step, scanned, changed, timed, Made, quiet, broadcastOf, broadcastMade, framed, judged, makeOf}
 use Rattle.model.specs.Run.{moves, nextOf}
 use Rattle.model.specs.Laws.{Untouched}
 use Rattle.model.specs.declared.Outcome.{Outcome}
@@ -31,7 +32,7 @@ module _ (c : Config) (i : Inner) (named : c .unit ≤ 0x7FE) where
   Leaves m = (m .inner .core .hold ≡ i .core .hold) × (m .inner .core .write ≡ i .core .write) × (m .inner .history ≡ i .history)
 
   broadcast-spares : (q : Request) → Spares (i .core) (broadcastOf c (i .core) (i .areas) q)
-  unfolding broadcastOf changed timed refused
+  unfolding broadcastOf changed timed scanned
   broadcast-spares q =
       by-cond (Spares (i .core)) (eqb (q .function) 0x20 && eqb (q .command) 0x11) (λ e. record { hold = refl; write = refl })
       (λ e. by-cond (Spares (i .core)) (eqb (q .function) 0x20 && eqb (q .command) 0x38) (λ e. record { hold = refl; write = refl })
@@ -58,9 +59,9 @@ module _ (c : Config) (i : Inner) (named : c .unit ≤ 0x7FE) where
       by-cond P (whole t) (λ e. by-cond P (checked t) (λ e. framed-leaves (requestIn (frameIn t) t) (unfold requestIn in a)) (λ e. quiet-leaves CheckWrong)) (λ e. quiet-leaves NotWhole)
 
 -- of every state, and a damaged one or one with a short buffer too
-pub broadcast-untouched : (c : Config) (s : State) (room : ℕ) (t : List ℕ) → c .unit ≤ 0x7FE → unitOf (wordAt t 0) ≡ broadcastUnit
-    → Untouched s (nextOf c s (stretch room t))
+pub broadcast-untouched : (c : Config) (s : State) (t : Stretch) → c .unit ≤ 0x7FE → unitOf (wordAt (t .chars) 0) ≡ broadcastUnit
+    → Untouched s (nextOf c s (stretch t))
 unfolding Leaves makeOf moves
-broadcast-untouched c s room t h a =
-    by-next (Untouched s) c s (stretch room t) (record { hold = refl; write = refl; history = refl })
-    (λ f. let l = stretch-leaves c (s .inner) h t a in record { hold = l .0; write = l .1; history = l .2 })
+broadcast-untouched c s t h a =
+    by-next (Untouched s) c s (stretch t) (record { hold = refl; write = refl; history = refl })
+    (λ f. let l = stretch-leaves c (s .inner) h (t .chars) a in record { hold = l .0; write = l .1; history = l .2 })

@@ -44,13 +44,14 @@ use Rattle.model.specs.State.{
   State,
   heldIn,
   storeIn,
-  releaseIn,
+  cutIn,
   freshCore,
   freshAreas,
   freshHistory,
   freshPort,
   freshOf,
 }
+use Rattle.model.specs.Change.{applied, addedBy, changedBy}
 use Rattle.model.specs.Scan.{counts, withNoData}
 use Rattle.model.specs.Inputs.{unreserved, chosen, wordOf, inputsOf, hasAccumulator, pulsesOf}
 use Rattle.model.specs.Control.{isOf, takes, selectWhen, operateWhen, selectOf, controlOf, operates, breaks, heldAfter}
@@ -62,11 +63,13 @@ use Rattle.model.specs.History.{
   fileOf,
   flat,
   historyChars,
-  releaseFor,
+  freedFor,
   mostOf,
   toldFrom,
+  tellOf,
   historyOf,
   recordChars,
+  storedWhen,
   storedAs,
 }
 use Rattle.model.specs.Fits.{
@@ -83,12 +86,8 @@ use Rattle.model.specs.Fits.{
   portFits,
   fits,
 }
+use Rattle.model.specs.Event.{pulses, store, Event, elapsed, local}
 use Rattle.model.specs.Step.{
-  Event,
-  stretch,
-  elapsed,
-  pulses,
-  store,
   controlled,
   timed,
   written,
@@ -102,9 +101,10 @@ use Rattle.model.specs.Step.{
   quiet,
   settled,
   finished,
-  beside,
-  historyMade,
-  initialises,
+  alone,
+  telling,
+  internalStep,
+  stepOf,
   served,
   framed,
   judged,
@@ -112,12 +112,14 @@ use Rattle.model.specs.Step.{
   elapsedMade,
   localMade,
   wordMade,
+  notedIn,
   storeMade,
+  localOf,
   makeOf,
 }
-use Rattle.model.specs.Port.{portStatus, sentChars, damageMark, markAfter, silentAfter, portAfter}
-use Rattle.model.specs.Run.{short, turnedAway, shows, moves, Result, resultOf, nextOf, afterFrom, after}
-use Rattle.model.specs.Bench.{benchConfig}
+use Rattle.model.specs.Port.{portStatus, sentChars, markAfter, silentAfter, portHeard, portAfter}
+use Rattle.model.specs.Run.{short, turnedAway, shows, moves, decided, Result, resultOf, nextOf, afterFrom, after}
+use Rattle.model.specs.Bench.{benchConfig, hears}
 use Rattle.model.specs.declared.Action.{Action}
 use Rattle.model.specs.declared.Action.the-variants.{Rest, Operate}
 
@@ -141,14 +143,14 @@ unfoldable pub frame : ℕ → ℕ → List ℕ → List ℕ
 frame f c ys = frameChars (record { address = 0x0CD2; function = f; command = c; body = ys })
 
 unfoldable pub asks : ℕ → ℕ → List ℕ → Event
-asks f c ys = stretch 520 (frame f c ys)
+asks f c ys = hears (frame f c ys)
 
 unfoldable pub scan : Event
 scan = asks 0x00 0x41 []
 
 -- that frame with one bit changed
 unfoldable pub damage : Event
-damage = stretch 520 (0xD2 ∷ 0x0C ∷ 0x00 ∷ 0x41 ∷ 0x00 ∷ 0x00 ∷ 0x53 ∷ 0x67 ∷ [])
+damage = hears (0xD2 ∷ 0x0C ∷ 0x00 ∷ 0x41 ∷ 0x00 ∷ 0x00 ∷ 0x53 ∷ 0x67 ∷ [])
 
 -- 20h/30h for ordinal 03 from its start on
 unfoldable pub writes : Event
@@ -156,7 +158,7 @@ writes = asks 0x20 0x30 (0 ∷ 0 ∷ 3 ∷ [])
 
 -- a record of 16 values 0102h in file 0, of event type n; as many of them, types ascending
 unfoldable pub record16 : ℕ → Event
-record16 n = store (record { 0 = 0 }) n (replicate 16 258)
+record16 n = local (store (record { 0 = 0 }) n (replicate 16 258))
 
 unfoldable pub records16 : ℕ → ℕ → List Event
 records16 from zero = []
@@ -224,8 +226,8 @@ table =
     ∷ record {
       number = 9;
       made =
-          getD (after benchConfig (pulses (record { 0 = 0x40 }) 65535 ∷ []) .inner .areas .words) 0x40 0
-          ∷ getD (after benchConfig (pulses (record { 0 = 0x40 }) 65535 ∷ pulses (record { 0 = 0x40 }) 1 ∷ []) .inner .areas .words) 0x40 0
+          getD (after benchConfig (local (pulses (record { 0 = 0x40 }) 65535) ∷ []) .inner .areas .words) 0x40 0
+          ∷ getD (after benchConfig (local (pulses (record { 0 = 0x40 }) 65535) ∷ local (pulses (record { 0 = 0x40 }) 1) ∷ []) .inner .areas .words) 0x40 0
           ∷ [];
       told = 65535 ∷ 0 ∷ [];
     }
@@ -277,14 +279,14 @@ unfolding
     put part word value wordAt gather upFrom bitStep bitSteps charStep checkFrom
     unitOf masterOf whole checked frameIn heardOf requestIn withCheck frameChars headChars replyChars
     damaged replyFunction has within accumulator every noneIn fileValid validOf hasFile hasCalculation sizeOf
-    heldIn storeIn releaseIn freshCore freshAreas freshHistory freshPort freshOf counts withNoData
+    heldIn storeIn cutIn applied addedBy changedBy freshCore freshAreas freshHistory freshPort freshOf counts withNoData
     unreserved chosen wordOf inputsOf hasAccumulator pulsesOf
     isOf takes selectWhen operateWhen selectOf controlOf operates breaks heldAfter
     known baseOf blockOf reaches waitsFor writeWhen writeOf notExecuted executes executeWhen executeOf dropped waitsAfter
     bcd fromBcd digits clockFits timeIn digitsFit setTimeOf timeOf clockAt clockAfter
-    acknowledges dumps fileOf flat historyChars releaseFor mostOf toldFrom historyOf recordChars storedAs
+    acknowledges dumps fileOf flat historyChars freedFor mostOf toldFrom tellOf historyOf recordChars storedWhen storedAs
     masterFits holdFits writeFits coreFits givable replyFits memoryFits fileFits historyFits areasFit portFits fits
-    controlled timed written executed scanned internalOf otherOf statusOf sentAs answered quiet settled finished beside historyMade initialises
-    served framed judged coreAfter elapsedMade localMade wordMade storeMade makeOf
-    portStatus sentChars damageMark markAfter silentAfter portAfter short turnedAway shows moves resultOf nextOf afterFrom
+    controlled timed written executed scanned internalOf otherOf statusOf sentAs answered quiet settled finished alone telling internalStep stepOf
+    served framed judged coreAfter elapsedMade localMade wordMade notedIn storeMade localOf makeOf
+    portStatus sentChars markAfter silentAfter portHeard portAfter short turnedAway shows moves decided resultOf nextOf afterFrom
 cases = record { numbered = refl; met = refl }

@@ -7,7 +7,7 @@ use mathlib.Core.Bool.{Bool, true, false, cond}
 use lib.ListN.{length, getD, take, length-append, List·getD-append}
 use lib.Seq.{take-at}
 use native.Mathlib.Omega.{arith}
-use borrow.Author.Tests.{leb-true, le-leb, le-ltb, lt-ltb}
+use borrow.Author.Tests.{le-ltb, lt-ltb}
 use Rattle.chars.specs.Word.{word}
 use Rattle.chars.proofs.WordLaws.{length-word}
 use Rattle.checkword.specs.Check.{checkOf}
@@ -17,9 +17,10 @@ use Rattle.model.specs.Sound.{Sound, headOf}
 use Rattle.model.specs.Config.{Config, validOf}
 use Rattle.model.specs.State.{Inner, State, freshPort, freshOf}
 use Rattle.model.specs.Fits.{portFits, fits}
-use Rattle.model.specs.Step.{Event, stretch, elapsed, setWord, setValue, pulses, store, Sent, silent, said, Made, quiet, judged, makeOf}
-use Rattle.model.specs.Port.{portStatus, sentChars, silentAfter, portAfter}
-use Rattle.model.specs.Run.{short, Result, turnedAway, shows, moves, resultOf, nextOf, Entry, entryOf, afterFrom, traceFrom, after}
+use Rattle.model.specs.Event.{Stretch, Event, stretch}
+use Rattle.model.specs.Step.{Sent, silent, said, Made, quiet, judged, makeOf}
+use Rattle.model.specs.Port.{portStatus, sentChars}
+use Rattle.model.specs.Run.{short, Result, turnedAway, shows, moves, decided, resultOf, nextOf, Entry, entryOf, afterFrom, traceFrom, after}
 use Rattle.model.specs.Formed.{AllGiven}
 use Rattle.model.specs.Damage.{Good, Damaged, cut, changed, Checked, Alike, AlikeEntry, AlikeTrace, none, more, Spoilt, clean, intact, spoilt}
 use Rattle.model.specs.Demand3.{Ends, Unseen}
@@ -28,7 +29,6 @@ use Rattle.model.specs.declared.Outcome.the-variants.{NotWhole, CheckWro
 use Rattle.model.specs.declared.Answer.the-variants.{Ended}
 use Rattle.model.specs.declared.Action.the-variants.{Rest}
 use Rattle.model.specs.declared.Mark.{Mark}
-use Rattle.model.specs.declared.Port.{Port}
 use Rattle.model.specs.declared.Heard.the-variants.{Broken, Wrong}
 use Rattle.model.proofs.Conditions.{by-bool}
 use Rattle.model.proofs.FrameLaws.{heard-whole, whole-heard, read-back, sent-characters, cut as cut-broken, burst}
@@ -55,11 +55,11 @@ record Unmoved (i : Inner) (m : Made) : Type 0 where
   sent : m .sent ≡ silent
   inner : m .inner ≡ i
 
-unmoved : (c : Config) (i : Inner) (room : ℕ) {t : List ℕ} → Damaged t → Unmoved i (makeOf c i (stretch room t))
+unmoved : (c : Config) (i : Inner) (t : Stretch) → Damaged (t .chars) → Unmoved i (makeOf c i (stretch t))
 unfolding makeOf judged quiet
-unmoved c i room {t} d = go (unheard d)
+unmoved c i t d = go (unheard d)
   where
-    go : (heardOf t ≡ Broken) ⊎ (heardOf t ≡ Wrong) → Unmoved i (judged c i t (heardOf t))
+    go : (heardOf (t .chars) ≡ Broken) ⊎ (heardOf (t .chars) ≡ Wrong) → Unmoved i (judged c i (t .chars) (heardOf (t .chars)))
     go (inl e) = rw e (record { answer = inl refl; action = refl; sent = refl; inner = refl })
     go (inr e) = rw e (record { answer = inr refl; action = refl; sent = refl; inner = refl })
 
@@ -122,7 +122,7 @@ module _ (c : Config) (s t : State) (w : Twins s t) where
   both-fit = rw (w .left, w .right, w .inner)
 
   twins-next : (e : Event) → Twins (nextOf c s e) (nextOf c t e)
-  unfolding nextOf moves
+  unfolding nextOf decided moves
   twins-next e = rw both-fit (go (short e) (fits c t))
     where
       go : (a b : Bool) → Twins (cond a s (cond b (moves (s .port) e (makeOf c (s .inner) e)) s)) (cond a t (cond b (moves (t .port) e (makeOf c (t .inner) e)) t))
@@ -136,7 +136,7 @@ module _ (c : Config) (s t : State) (w : Twins s t) where
       go false false = w
 
   alike-entry : (e : Event) → AlikeEntry (entryOf c s e) (entryOf c t e)
-  unfolding entryOf resultOf shows turnedAway
+  unfolding entryOf resultOf decided shows turnedAway
   alike-entry e = rw both-fit (go (short e) (fits c t))
     where
       go : (a b : Bool) → AlikeEntry
@@ -185,51 +185,51 @@ run-port c es =
     (λ s e xs h. by-next (λ t. portFits (t .port) ≡ true) c s e h (λ b. port-fits (s .port) e _ h))
     (freshOf c) es (fresh-port c)
 
-module _ (c : Config) (s : State) (room : ℕ) {t : List ℕ} (d : Damaged t) where
-  damaged-twins : portFits (s .port) ≡ true → Twins (nextOf c s (stretch room t)) s
+module _ (c : Config) (s : State) (t : Stretch) (d : Damaged (t .chars)) where
+  damaged-twins : portFits (s .port) ≡ true → Twins (nextOf c s (stretch t)) s
   unfolding moves
   damaged-twins h =
-      by-next (λ x. Twins x s) c s (stretch room t) (record { inner = refl; left = h; right = h })
-      (λ b. record { inner = unmoved c (s .inner) room d .inner; left = port-fits (s .port) (stretch room t) _ h; right = h })
+      by-next (λ x. Twins x s) c s (stretch t) (record { inner = refl; left = h; right = h })
+      (λ b. record { inner = unmoved c (s .inner) t d .inner; left = port-fits (s .port) (stretch t) _ h; right = h })
 
   -- however it ends, nothing is sent and nothing operates
-  away-silent : (o : Outcome) → resultOf c s (stretch room t) ≡ turnedAway o → (resultOf c s (stretch room t) .reply ≡ []) × (resultOf c s (stretch room t) .action ≡ Rest)
+  away-silent : (o : Outcome) → resultOf c s (stretch t) ≡ turnedAway o → (resultOf c s (stretch t) .reply ≡ []) × (resultOf c s (stretch t) .action ≡ Rest)
   unfolding turnedAway
   away-silent o e = (ap (λ (r : Result). r .reply) e, ap (λ (r : Result). r .action) e)
 
-  made-silent : resultOf c s (stretch room t) ≡ shows (s .port) (makeOf c (s .inner) (stretch room t))
-      → (resultOf c s (stretch room t) .reply ≡ []) × (resultOf c s (stretch room t) .action ≡ Rest)
+  made-silent : resultOf c s (stretch t) ≡ shows (s .port) (makeOf c (s .inner) (stretch t))
+      → (resultOf c s (stretch t) .reply ≡ []) × (resultOf c s (stretch t) .action ≡ Rest)
   unfolding shows sentChars
   made-silent e =
-      let u = unmoved c (s .inner) room d in
+      let u = unmoved c (s .inner) t d in
       (ap (λ (r : Result). r .reply) e ∙ ap (sentChars (s .port .mark)) (u .sent), ap (λ (r : Result). r .action) e ∙ u .action)
 
-  damaged-silent : (resultOf c s (stretch room t) .reply ≡ []) × (resultOf c s (stretch room t) .action ≡ Rest)
+  damaged-silent : (resultOf c s (stretch t) .reply ≡ []) × (resultOf c s (stretch t) .action ≡ Rest)
   damaged-silent =
-      let e : Event = stretch room t in
+      let e : Event = stretch t in
       by-bool (short e) (λ a. away-silent BufferShort (short-away c s e a .0))
       (λ a. by-bool (fits c s) (λ b. made-silent (works c s e a b .0)) (λ b. away-silent NotConfigured (unfit-away c s e a b .0)))
 
-  damaged-ends : (xs : List Event) → (validOf c ≡ true → AllGiven xs → fits c s ≡ true) → Ends c xs room (resultOf c s (stretch room t) .answer)
+  damaged-ends : (xs : List Event) → (validOf c ≡ true → AllGiven xs → fits c s ≡ true) → Ends c xs (t .room) (resultOf c s (stretch t) .answer)
   unfolding short turnedAway shows fits
   damaged-ends xs f =
-      let e : Event = stretch room t in
+      let e : Event = stretch t in
       record {
-        short = λ l. ap (λ (r : Result). r .answer) (short-away c s e (lt-ltb room longestReply l) .0);
-        invalid = λ l v. ap (λ (r : Result). r .answer) (unfit-away c s e (le-ltb room longestReply l) (rw v) .0);
-        damaged = λ l v g. rw (works c s e (le-ltb room longestReply l) (f v g) .0) (unmoved c (s .inner) room d .answer);
+        short = λ l. ap (λ (r : Result). r .answer) (short-away c s e (lt-ltb (t .room) longestReply l) .0);
+        invalid = λ l v. ap (λ (r : Result). r .answer) (unfit-away c s e (le-ltb (t .room) longestReply l) (rw v) .0);
+        damaged = λ l v g. rw (works c s e (le-ltb (t .room) longestReply l) (f v g) .0) (unmoved c (s .inner) t d .answer);
       }
 
 -- THE THEOREM: of a damaged stretch nothing is seen but in the port
-pub damage : (c : Config) (xs : List Event) (room : ℕ) {t : List ℕ} → Damaged t → (ys : List Event) → Unseen c xs room t ys
+pub damage : (c : Config) (xs : List Event) (t : Stretch) → Damaged (t .chars) → (ys : List Event) → Unseen c xs t ys
 unfolding afterFrom
-damage c xs room {t} d ys =
+damage c xs t d ys =
     let s = after c xs in
-    let e : Event = stretch room t in
-    let a = alike c (nextOf c s e) s ys (damaged-twins c s room d (run-port c xs)) in
-    let q = damaged-silent c s room d in
+    let e : Event = stretch t in
+    let a = alike c (nextOf c s e) s ys (damaged-twins c s t d (run-port c xs)) in
+    let q = damaged-silent c s t d in
     record {
-      ends = damaged-ends c s room d xs (run-fits c xs);
+      ends = damaged-ends c s t d xs (run-fits c xs);
       unanswered = q .0;
       rests = q .1;
       later = rw (after-append c (freshOf c) xs (e ∷ [])) (a .0);
@@ -241,9 +241,9 @@ spoilt-from : (c : Config) {xs ys : List Event} → Spoilt xs ys → (s t : Stat
 unfolding afterFrom
 spoilt-from c clean s t w = w
 spoilt-from c (intact {e = e} k) s t w = spoilt-from c k (nextOf c s e) (nextOf c t e) (twins-next c s t w e)
-spoilt-from c (spoilt {room = room} {t = b} d k) s t w =
-    let v = damaged-twins c s room d (w .left) in
-    spoilt-from c k (nextOf c s (stretch room b)) t (record { inner = v .inner ∙ w .inner; left = v .left; right = w .right })
+spoilt-from c (spoilt {t = b} d k) s t w =
+    let v = damaged-twins c s b d (w .left) in
+    spoilt-from c k (nextOf c s (stretch b)) t (record { inner = v .inner ∙ w .inner; left = v .left; right = w .right })
 
 pub spoilt-kept : (c : Config) {xs ys : List Event} → Spoilt xs ys → after c xs .inner ≡ after c ys .inner
 spoilt-kept c k = spoilt-from c k (freshOf c) (freshOf c) (record { inner = refl; left = fresh-port c; right = fresh-port c }) .inner

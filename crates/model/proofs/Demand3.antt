@@ -4,7 +4,7 @@ use mathlib.Core.Path.{_≡_, refl, sym, ap, ap₂, _∙_}
 use mathlib.Core.List.{List, [], _∷_, _++_, append-assoc, append-cancel-right}
 use Rattle.model.specs.Config.{Config}
 use Rattle.model.specs.State.{Inner, heldIn, freshOf}
-use Rattle.model.specs.Step.{Event, stretch}
+use Rattle.model.specs.Event.{Stretch, Event, stretch}
 use Rattle.model.specs.Run.{Entry, entryOf, afterFrom, traceFrom, after, trace}
 use Rattle.model.specs.Line.{storedBy, storedIn, releasedIn}
 use Rattle.model.specs.Damage.{Damaged, AlikeEntry, AlikeTrace, none, more}
@@ -29,23 +29,23 @@ unfolding storedIn
 stored-alike g none = refl
 stored-alike g (more {a = a} {b = b} e k) = ap₂ (λ (x y : List (List ℕ)). x ++ y) (stored-once a b g e) (stored-alike g k)
 
-module _ (c : Config) (xs : List Event) (room : ℕ) {t : List ℕ} (d : Damaged t) (ys : List Event) (g : ℕ) where
-  stored-later : storedIn (traceFrom c (after c xs) (stretch room t ∷ ys)) g ≡ storedIn (traceFrom c (after c xs) ys) g
+module _ (c : Config) (xs : List Event) (t : Stretch) (d : Damaged (t .chars)) (ys : List Event) (g : ℕ) where
+  stored-later : storedIn (traceFrom c (after c xs) (stretch t ∷ ys)) g ≡ storedIn (traceFrom c (after c xs) ys) g
   unfolding traceFrom afterFrom storedIn entryOf storedBy
   stored-later =
-      stored-alike g (rw (after-append c (freshOf c) xs (stretch room t ∷ [])) at (damage c xs room d ys .later))
+      stored-alike g (rw (after-append c (freshOf c) xs (stretch t ∷ [])) at (damage c xs t d ys .later))
 
-  stored-same : storedIn (trace c (xs ++ (stretch room t ∷ ys))) g ≡ storedIn (trace c (xs ++ ys)) g
+  stored-same : storedIn (trace c (xs ++ (stretch t ∷ ys))) g ≡ storedIn (trace c (xs ++ ys)) g
   stored-same =
-      rw (trace-append c (freshOf c) xs (stretch room t ∷ ys), trace-append c (freshOf c) xs ys, stored-append, stored-append)
+      rw (trace-append c (freshOf c) xs (stretch t ∷ ys), trace-append c (freshOf c) xs ys, stored-append, stored-append)
       (ap (λ (z : List (List ℕ)). storedIn (trace c xs) g ++ z) stored-later)
 
   -- stored alike and held alike, so released alike
-  released-same : releasedIn c (trace c (xs ++ (stretch room t ∷ ys))) g ≡ releasedIn c (trace c (xs ++ ys)) g
+  released-same : releasedIn c (trace c (xs ++ (stretch t ∷ ys))) g ≡ releasedIn c (trace c (xs ++ ys)) g
   released-same =
       append-cancel-right _ _ (heldBy (after c (xs ++ ys)) g)
-      (ap (λ (i : Inner). releasedIn c (trace c (xs ++ (stretch room t ∷ ys))) g ++ heldIn (i .history .files) g) (sym (damage c xs room d ys .kept))
-      ∙ sym (records c (xs ++ (stretch room t ∷ ys)) g) ∙ stored-same ∙ records c (xs ++ ys) g)
+      (ap (λ (i : Inner). releasedIn c (trace c (xs ++ (stretch t ∷ ys))) g ++ heldIn (i .history .files) g) (sym (damage c xs t d ys .kept))
+      ∙ sym (records c (xs ++ (stretch t ∷ ys)) g) ∙ stored-same ∙ records c (xs ++ ys) g)
 
 -- ---- the demand
 
@@ -53,8 +53,8 @@ module _ (c : Config) (xs : List Event) (room : ℕ) {t : List ℕ} (d : Damaged
 pub demand-3 : (c : Config) → Demand3 c
 demand-3 c =
     record {
-      damage = λ xs room d ys. damage c xs room d ys;
-      spared = λ xs room d ys g. record { stored = stored-same c xs room d ys g; released = released-same c xs room d ys g };
+      damage = damage c;
+      spared = λ xs t d ys g. record { stored = stored-same c xs t d ys g; released = released-same c xs t d ys g };
       records = records c;
       events = accounted c;
       latest = λ es e. came c (trace c es) e;

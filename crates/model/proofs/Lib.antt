@@ -13,6 +13,7 @@ pub mod Refusing
 pub mod RefusedStretch
 pub mod LocalRefusals
 pub mod TurnedAway
+pub mod Changes
 pub mod Refusals
 pub mod Damage
 pub mod Shown

@@ -7,10 +7,12 @@ use native.Mathlib.Omega.{arith}
 use Rattle.model.specs.Outcome.{carriedOut, answerNumber}
 use Rattle.model.specs.Config.{Config, has, accumulator, hasCalculation}
 use Rattle.model.specs.State.{Inner}
+use Rattle.model.specs.Change.{applied, addedBy, changedBy}
 use Rattle.model.specs.Inputs.{hasAccumulator, setWordOf, pulsesOf}
 use Rattle.model.specs.Calculations.{setValueOf}
 use Rattle.model.specs.History.{recordChars, storedAs}
-use Rattle.model.specs.Step.{Event, stretch, elapsed, setWord, setValue, pulses, store, silent, Made, quiet, elapsedMade, localMade, wordMade, valueMade, storeMade, makeOf}
+use Rattle.model.specs.Event.{Local, setWord, setValue, pulses, store, Event, stretch, elapsed, local}
+use Rattle.model.specs.Step.{silent, Made, quiet, elapsedMade, localMade, wordMade, valueMade, notedIn, storeMade, localOf, makeOf}
 use Rattle.model.specs.Port.{portAfter}
 use Rattle.model.specs.Refusal.{arrives, succeeded, wasFull, refusedLocal, RefusedLocally}
 use Rattle.model.specs.declared.Stored.{Stored}
@@ -31,36 +33,40 @@ module _ {A : Type 0} {i : Inner} {e : Event} {w : A → Made} {r : A} where
   succeeds d = record { refuses = λ n. absurd (true≢false (sym d ∙ n)) }
 
   fails : w r .inner ≡ refusedLocal (w r .answer) i → w r .action ≡ Rest → w r .sent ≡ silent
-      → ((p : Port) → portAfter p e (w r) ≡ p) → answerNumber (w r .answer) ≤ 16 → Meets i e w r
+      → ((p : Port) → portAfter p e (w r .answer) ≡ p) → answerNumber (w r .answer) ≤ 16 → Meets i e w r
   fails a b d f g = record { refuses = λ n. record { inner = a; action = b; sent = d; port = f; row = g } }
 
 module _ (c : Config) (i : Inner) where
-  set-word-meets : (n : Input) (w : ℕ) → Meets i (setWord n w) (wordMade i) (setWordOf (c .inputs) (i .areas .words) (n .0) w)
+  set-word-meets : (n : Input) (w : ℕ) → Meets i (local (setWord n w)) (wordMade i) (setWordOf (c .inputs) (i .areas .words) (n .0) w)
   unfolding setWordOf wordMade localMade quiet succeeded carriedOut refusedLocal wasFull portAfter
-  set-word-meets n w = by-cond (Meets i (setWord n w) (wordMade i)) (has (c .inputs) (n .0) && not (accumulator (n .0))) (λ e. succeeds refl) (λ e. fails refl refl refl (λ p. refl) (omega arith))
+  set-word-meets n w = by-cond (Meets i (local (setWord n w)) (wordMade i)) (has (c .inputs) (n .0) && not (accumulator (n .0))) (λ e. succeeds refl) (λ e. fails refl refl refl (λ p. refl) (omega arith))
 
-  set-value-meets : (n : SpecialCalculation) (v : ℕ) → Meets i (setValue n v) (valueMade i) (setValueOf (c .calculations) (i .areas .values) (n .0) v)
+  set-value-meets : (n : SpecialCalculation) (v : ℕ) → Meets i (local (setValue n v)) (valueMade i) (setValueOf (c .calculations) (i .areas .values) (n .0) v)
   unfolding setValueOf valueMade localMade quiet succeeded carriedOut refusedLocal wasFull portAfter
-  set-value-meets n v = by-cond (Meets i (setValue n v) (valueMade i)) (hasCalculation (c .calculations) (n .0)) (λ e. succeeds refl) (λ e. fails refl refl refl (λ p. refl) (omega arith))
+  set-value-meets n v = by-cond (Meets i (local (setValue n v)) (valueMade i)) (hasCalculation (c .calculations) (n .0)) (λ e. succeeds refl) (λ e. fails refl refl refl (λ p. refl) (omega arith))
 
-  pulses-meets : (n : Input) (k : ℕ) → Meets i (pulses n k) (wordMade i) (pulsesOf (c .inputs) (i .areas .words) (n .0) k)
+  pulses-meets : (n : Input) (k : ℕ) → Meets i (local (pulses n k)) (wordMade i) (pulsesOf (c .inputs) (i .areas .words) (n .0) k)
   unfolding pulsesOf wordMade localMade quiet succeeded carriedOut refusedLocal wasFull portAfter
-  pulses-meets n k = by-cond (Meets i (pulses n k) (wordMade i)) (hasAccumulator (c .inputs) (n .0)) (λ e. succeeds refl) (λ e. fails refl refl refl (λ p. refl) (omega arith))
+  pulses-meets n k = by-cond (Meets i (local (pulses n k)) (wordMade i)) (hasAccumulator (c .inputs) (n .0)) (λ e. succeeds refl) (λ e. fails refl refl refl (λ p. refl) (omega arith))
 
-  store-meets : (f : File) (x : ℕ) (vs r : List ℕ) (d : Stored) → Meets i (store f x vs) (storeMade i (f .0) r) d
-  unfolding storeMade quiet succeeded refusedLocal wasFull portAfter
+  store-meets : (f : File) (x : ℕ) (vs r : List ℕ) (d : Stored) → Meets i (local (store f x vs)) (storeMade i (f .0) r) d
+  unfolding storeMade notedIn addedBy changedBy applied succeeded refusedLocal wasFull portAfter
   store-meets f x vs r Kept = succeeds refl
   store-meets f x vs r Full = fails refl refl refl (λ p. refl) (omega arith)
   store-meets f x vs r NotEquipped = fails refl refl refl (λ p. refl) (omega arith)
   store-meets f x vs r WrongValues = fails refl refl refl (λ p. refl) (omega arith)
 
+  each-meets : (e : Local) → Meets i (local e) (localOf c i) e
+  unfolding localOf
+  each-meets (setWord n w) = record { refuses = set-word-meets n w .refuses }
+  each-meets (setValue n v) = record { refuses = set-value-meets n v .refuses }
+  each-meets (pulses n k) = record { refuses = pulses-meets n k .refuses }
+  each-meets (store f x vs) =
+      record { refuses = store-meets f x vs (recordChars (record { event = x; clock = i .core .clock }) vs) (storedAs (c .files) (c .values) (i .history .files) (f .0) vs) .refuses }
+
   -- every event but a stretch
   pub local-meets : (e : Event) → arrives e ≡ false → Meets i e (makeOf c i) e
   unfolding arrives makeOf elapsedMade quiet succeeded carriedOut
-  local-meets (stretch room t) a = absurd (true≢false a)
+  local-meets (stretch t) a = absurd (true≢false a)
   local-meets (elapsed ms) a = succeeds refl
-  local-meets (setWord n w) a = record { refuses = set-word-meets n w .refuses }
-  local-meets (setValue n v) a = record { refuses = set-value-meets n v .refuses }
-  local-meets (pulses n k) a = record { refuses = pulses-meets n k .refuses }
-  local-meets (store f x vs) a =
-      record { refuses = store-meets f x vs (recordChars (record { event = x; clock = i .core .clock }) vs) (storedAs (c .files) (c .values) (i .history .files) (f .0) vs) .refuses }
+  local-meets (local e) a = record { refuses = each-meets e .refuses }

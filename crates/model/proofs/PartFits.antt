@@ -13,6 +13,7 @@ use Rattle.model.specs.Limits.{holdTime, fileRoom}
 use Rattle.model.specs.Frame.{Request, masterOf, frameIn, requestIn}
 use Rattle.model.specs.Config.{Config, has, within, every, hasFile}
 use Rattle.model.specs.State.{Files, History, heldIn, storeIn}
+use Rattle.model.specs.Change.{stays, adds, applied, changedBy}
 use Rattle.model.specs.Scan.{counts}
 use Rattle.model.specs.Control.{
   Controlled,
@@ -27,9 +28,8 @@ use Rattle.model.specs.Control.{
 }
 use Rattle.model.specs.Blocks.{Written, waitsFor, writeWhen, writeOf, waitsAfter}
 use Rattle.model.specs.Clock.{Timed, clockFits, timeIn, digitsFit, setTimeOf, clockAt, clockAfter}
-use Rattle.model.specs.History.{fileOf, releaseFor, mostOf, toldFrom}
+use Rattle.model.specs.History.{fileOf, freedFor, mostOf, toldFrom}
 use Rattle.model.specs.Fits.{masterFits, holdFits, writeFits, givable, replyFits, memoryFits, fileFits, historyFits}
-use Rattle.model.specs.Step.{forgotten}
 use Rattle.model.specs.declared.Master.{Master}
 use Rattle.model.specs.declared.Clock.{Clock}
 use Rattle.model.specs.declared.Select.{Select}
@@ -42,7 +42,7 @@ use Rattle.model.specs.declared.HistoryReply.{HistoryReply}
 use Rattle.model.specs.declared.Memory.{Memory}
 use Rattle.model.specs.declared.Memory.the-variants.{Nothing, Remembered}
 use Rattle.model.proofs.Conditions.{by-cond, and-left, and-right, and-both, every-upFrom, upFrom-every}
-use Rattle.model.proofs.FileLaws.{held-stored, store-grows, release-shrinks}
+use Rattle.model.proofs.FileLaws.{held-stored, store-grows, cut-shrinks, toldAfter, newTold}
 
 -- ---- masters and the clock
 
@@ -201,11 +201,11 @@ module _ (c : Config) where
   unfolding FilesFit fileFits
   fewer-fit fs gs less e f k = omega (arith, le-leb, leb-true, e f k, less f)
 
-  released-fit : (m : Memory) (fs : Files) (p : Master) → FilesFit c fs → FilesFit c (releaseFor m fs p)
-  unfolding releaseFor
-  released-fit Nothing fs p e = e
-  released-fit (Remembered t) fs p e =
-      by-cond (FilesFit c) (isOf (t .master) p) (λ b. fewer-fit fs _ (λ f. release-shrinks fs (t .file .0) f (t .quantity)) e) (λ b. e)
+  freed-fit : (m : Memory) (fs : Files) (p : Master) → FilesFit c fs → FilesFit c (applied (freedFor m p) fs)
+  unfolding freedFor applied
+  freed-fit Nothing fs p e = e
+  freed-fit (Remembered t) fs p e =
+      by-cond (λ ch. FilesFit c (applied ch fs)) (isOf (t .master) p) (λ b. fewer-fit fs _ (λ f. cut-shrinks fs (t .file .0) f 0 (t .quantity)) e) (λ b. e)
 
   -- ---- a new reply, and one that is remembered while its file grows
 
@@ -239,14 +239,15 @@ module _ (c : Config) where
   reply-fits fs t g k n m = and-both g (and-both k (new-givable _ _ (t .quantity) (t .more) n m))
 
   pub told-fits : (h : History) (q : Request) → masterFits (masterOf (q .address)) ≡ true → hasFile (c .files) (fileOf q) ≡ true → historyFits c h ≡ true
-      → historyFits c (toldFrom (c .values) (releaseFor (h .memory) (h .files) (masterOf (q .address))) q .history) ≡ true
-  unfolding toldFrom
+      → historyFits c (toldAfter h (newTold c h q)) ≡ true
+  unfolding toldFrom changedBy
   told-fits h q g k e =
-      let fs = releaseFor (h .memory) (h .files) (masterOf (q .address)) in
-      history-fits (toldFrom (c .values) fs q .history .memory) fs (released-fit (h .memory) (h .files) _ (history-files h e)) (reply-fits fs _ g k (omega arith) refl)
+      let ch = freedFor (h .memory) (masterOf (q .address)) in
+      let fs = applied ch (h .files) in
+      history-fits (toldFrom (c .values) ch fs q .memory) fs (freed-fit (h .memory) (h .files) _ (history-files h e)) (reply-fits fs _ g k (omega arith) refl)
 
-  pub forgotten-fits : (h : History) → historyFits c h ≡ true → historyFits c (forgotten h) ≡ true
-  unfolding forgotten memoryFits
+  pub forgotten-fits : (h : History) → historyFits c h ≡ true → historyFits c (changedBy stays Nothing h) ≡ true
+  unfolding changedBy applied memoryFits
   forgotten-fits h e = history-fits Nothing (h .files) (history-files h e) refl
 
   -- ---- a record that is kept
@@ -262,7 +263,8 @@ module _ (c : Config) where
       (λ b. rw append-nil (e g i)))
 
   pub kept-fits : (h : History) (f : ℕ) (r : List ℕ) → hasFile (c .files) f ≡ true → length (heldIn (h .files) f) < fileRoom → historyFits c h ≡ true
-      → historyFits c (record { memory = h .memory; files = storeIn (h .files) f r }) ≡ true
+      → historyFits c (changedBy (adds f r) (h .memory) h) ≡ true
+  unfolding changedBy applied
   kept-fits h f r k room e =
       history-fits (h .memory) (storeIn (h .files) f r) (stored-fit (h .files) f r k room (history-files h e))
       (grown-fits (h .memory) (h .files) _ (λ g. store-grows (h .files) f g r) (history-memory h e))

@@ -1,31 +1,25 @@
 -- A property of a unit that holds part by part: which definitions change a part, and that nothing else does. Assumes nothing.
 use Prim.Native.Nat.{ℕ}
 use mathlib.Core.Path.{_≡_, refl}
-use mathlib.Core.List.{List}
+use mathlib.Core.List.{List, []}
 use mathlib.Core.Bool.{true, _&&_}
 use lib.ListN.{length}
 use lib.Dec.{eqb, ltb}
 use Rattle.model.specs.Frame.{Request, unitOf, masterOf, broadcastUnit, frameIn, heardOf, requestIn, whole, checked}
 use Rattle.model.specs.Outcome.{numberOf}
 use Rattle.model.specs.Config.{Config, hasFile}
-use Rattle.model.specs.State.{Areas, History, Inner, storeIn}
-use Rattle.model.specs.Scan.{Scan, counts}
+use Rattle.model.specs.State.{Areas, History, Inner}
+use Rattle.model.specs.Change.{stays, adds, applied, addedBy, changedBy}
+use Rattle.model.specs.Scan.{Scan, tells, counts}
 use Rattle.model.specs.Inputs.{Changed, resetCountOf}
 use Rattle.model.specs.Control.{controlOf, breaks, heldAfter, isOf}
 use Rattle.model.specs.Blocks.{executeOf, writeOf, dropped, waitsAfter}
 use Rattle.model.specs.Clock.{setTimeOf, clockAfter}
-use Rattle.model.specs.History.{Told, acknowledges, fileOf, untold, releaseFor, toldFrom, agrees, againWhen, historyOf, recordChars, storedAs}
+use Rattle.model.specs.History.{Told, acknowledges, fileOf, untold, agrees, againWhen, tellOf, historyOf, recordChars, storedAs}
+use Rattle.model.specs.Event.{Stretch, Local, setWord, setValue, pulses, store, Event, stretch, elapsed, local}
 use Rattle.model.specs.Step.{
-  Event,
-  stretch,
-  elapsed,
-  setWord,
-  setValue,
-  pulses,
-  store,
   Step,
   withWords,
-  refused,
   scanned,
   changed,
   controlled,
@@ -38,14 +32,15 @@ use Rattle.model.specs.Step.{
   Made,
   quiet,
   settled,
+  Stepped,
   finished,
-  beside,
+  alone,
   brokenOff,
-  historyMade,
-  initialises,
+  telling,
   restarted,
-  forgotten,
-  initialised,
+  initialStep,
+  internalStep,
+  stepOf,
   served,
   broadcastOf,
   broadcastMade,
@@ -56,11 +51,13 @@ use Rattle.model.specs.Step.{
   localMade,
   wordMade,
   valueMade,
+  notedIn,
   storeMade,
+  localOf,
   makeOf,
 }
 use Rattle.model.specs.declared.Outcome.{Outcome}
-use Rattle.model.specs.declared.Outcome.the-variants.{Done, OtherUnit, NotWhole, CheckWrong, Unknown, WrongCount}
+use Rattle.model.specs.declared.Outcome.the-variants.{OtherUnit, NotWhole, CheckWrong}
 use Rattle.model.specs.declared.Stored.{Stored}
 use Rattle.model.specs.declared.Stored.the-variants.{Kept, Full, NotEquipped, WrongValues}
 use Rattle.model.specs.declared.Answer.{Answer}
@@ -76,6 +73,7 @@ use Rattle.model.specs.declared.Memory.{Memory}
 use Rattle.model.specs.declared.Memory.the-variants.{Nothing, Remembered}
 use Rattle.model.specs.declared.Core.{Core}
 use Rattle.model.proofs.Conditions.{by-cond}
+use Rattle.model.proofs.FileLaws.{toldAfter, newTold}
 use Rattle.model.proofs.AreaLaws.{SameLengths, setWord-long, pulses-long, resetCount-long, setValue-long, execute-long}
 
 -- ---- a property, part by part
@@ -104,9 +102,13 @@ record StepHas (p : Parts) (s : Step) : Type 0 where
   core : CoreHas p (s .core)
   areas : p .areas (s .areas)
 
+record SteppedHas (p : Parts) (i : Inner) (m : Stepped) : Type 0 where
+  step : StepHas p (m .step)
+  history : p .history (changedBy (m .change) (m .memory) (i .history))
+
 -- it outlasts each definition that changes a part, and these are all
 pub record Lasts (c : Config) (p : Parts) : Type 0 where
-  pub heard : (room : ℕ) (s : List ℕ) → p .event (stretch room s) → p .request (requestIn (frameIn s) s)
+  pub heard : (s : Stretch) → p .event (stretch s) → p .request (requestIn (frameIn (s .chars)) (s .chars))
   pub set-time : (k : Clock) (q : Request) → p .clock k → p .clock (setTimeOf k q .clock)
   pub clock-after : (k : Clock) (ms : ℕ) → p .clock k → p .clock (clockAfter k ms)
   pub free : p .hold Free
@@ -117,10 +119,10 @@ pub record Lasts (c : Config) (p : Parts) : Type 0 where
   pub waits-after : (w : Pending) (ms : ℕ) → p .write w → p .write (waitsAfter w ms)
   pub lengths : (a b : Areas) → SameLengths a b → p .areas a → p .areas b
   pub told : (h : History) (q : Request) → p .request q → hasFile (c .files) (fileOf q) ≡ true → p .history h
-      → p .history (toldFrom (c .values) (releaseFor (h .memory) (h .files) (masterOf (q .address))) q .history)
-  pub forgotten : (h : History) → p .history h → p .history (forgotten h)
+      → p .history (toldAfter h (newTold c h q))
+  pub forgotten : (h : History) → p .history h → p .history (changedBy stays Nothing h)
   pub kept : (h : History) (f : ℕ) (r : Record) (vs : List ℕ) → storedAs (c .files) (c .values) (h .files) f vs ≡ Kept → p .history h
-      → p .history (record { memory = h .memory; files = storeIn (h .files) f (recordChars r vs) })
+      → p .history (changedBy (adds f (recordChars r vs)) (h .memory) h)
 
 Makes : Parts → Made → Type 0
 Makes p m = InnerHas p (m .inner)
@@ -140,19 +142,16 @@ module _ (c : Config) (p : Parts) (l : Lasts c p) where
         write = by-cond (p .write) (eqb (numberOf o) 5) (λ e. h .write) (λ e. dropped-has (k .write) (masterOf (q .address)) (h .write));
       }
 
-  finished-has : (k : Core) (q : Request) (s : Step) (h : History) → StepHas p s → p .history h → Makes p (finished k q s h)
+  finished-has : (i : Inner) (q : Request) (m : Stepped) → SteppedHas p i m → Makes p (finished i q m)
   unfolding Makes finished
-  finished-has k q s h r t = record { core = settled-has q (s .outcome) (s .core) (r .core); areas = r .areas; history = t }
+  finished-has i q m h =
+      record { core = settled-has q (m .step .says .outcome) (m .step .core) (h .step .core); areas = h .step .areas; history = h .history }
 
   quiet-has : (o : Answer) (i : Inner) → InnerHas p i → Makes p (quiet o i)
   unfolding Makes quiet
   quiet-has o i h = h
 
   module _ (k : Core) (a : Areas) (kh : CoreHas p k) (ah : p .areas a) where
-    refused-has : (o : Outcome) → StepHas p (refused o k a)
-    unfolding refused
-    refused-has o = record { core = kh; areas = ah }
-
     scanned-has : (r : Scan) → StepHas p (scanned k a r)
     unfolding scanned
     scanned-has r = record { core = kh; areas = ah }
@@ -192,14 +191,14 @@ module _ (c : Config) (p : Parts) (l : Lasts c p) where
         (λ e. by-cond (StepHas p) (eqb (q .command) 0x30) (λ e. written-has q g)
         (λ e. by-cond (StepHas p) (eqb (q .command) 0x31) (λ e. executed-has q)
         (λ e. by-cond (StepHas p) (eqb (q .command) 0x38) (λ e. timed-has q)
-        (λ e. refused-has Unknown))))
+        (λ e. scanned-has _))))
 
     return-has : (q : Request) → StepHas p (returnOf k a q)
     unfolding returnOf
     return-has q =
         by-cond (StepHas p) (eqb (q .command) 0x30) (λ e. scanned-has _)
         (λ e. by-cond (StepHas p) (eqb (q .command) 0x31) (λ e. scanned-has _)
-        (λ e. refused-has Unknown))
+        (λ e. scanned-has _))
 
     other-has : (q : Request) → p .request q → StepHas p (otherOf c k a q)
     unfolding otherOf
@@ -208,67 +207,76 @@ module _ (c : Config) (p : Parts) (l : Lasts c p) where
         (λ e. by-cond (StepHas p) (eqb (q .function) 0x03) (λ e. scanned-has _)
         (λ e. by-cond (StepHas p) (eqb (q .function) 0x0A) (λ e. scanned-has _)
         (λ e. by-cond (StepHas p) (eqb (q .function) 0x10) (λ e. controlled-has q g)
-        (λ e. by-cond (StepHas p) (eqb (q .function) 0x20) (λ e. internal-has q g)
         (λ e. by-cond (StepHas p) (eqb (q .function) 0x28) (λ e. return-has q)
-        (λ e. refused-has Unknown))))))
+        (λ e. scanned-has _)))))
 
     broadcast-has : (q : Request) → StepHas p (broadcastOf c k a q)
     unfolding broadcastOf
     broadcast-has q =
         by-cond (StepHas p) (eqb (q .function) 0x20 && eqb (q .command) 0x11) (λ e. changed-has q)
         (λ e. by-cond (StepHas p) (eqb (q .function) 0x20 && eqb (q .command) 0x38) (λ e. timed-has q)
-        (λ e. refused-has Unknown))
+        (λ e. scanned-has _))
 
   module _ (i : Inner) (h : InnerHas p i) where
-    beside-has : (q : Request) (s : Step) → StepHas p s → Makes p (beside i q s)
-    unfolding beside
-    beside-has q s r = finished-has (i .core) q s (i .history) r (h .history)
+    alone-has : (s : Step) → StepHas p s → SteppedHas p i (alone i s)
+    unfolding alone changedBy applied
+    alone-has s r = record { step = r; history = h .history }
 
     brokenOff-has : StepHas p (brokenOff (i .core) (i .areas))
-    unfolding brokenOff refused
+    unfolding brokenOff scanned
     brokenOff-has = record { core = record { clock = h .core .clock; hold = l .free; write = h .core .write }; areas = h .areas }
 
     -- sending again, and a refusal, change nothing
-    again-has : (m : Memory) (q : Request) → p .history (againWhen m (i .history) q .history)
-    unfolding againWhen untold
-    again-has Nothing q = h .history
-    again-has (Remembered t) q = by-cond {A = Told} (λ x. p .history (x .history)) (agrees t q) (λ e. h .history) (λ e. h .history)
+    again-has : (w : Memory) (q : Request) → p .history (record { memory = w; files = i .history .files })
+        → p .history (toldAfter (i .history) (againWhen w (i .history .files) q))
+    unfolding againWhen untold changedBy applied
+    again-has Nothing q k = k
+    again-has (Remembered t) q k = by-cond {A = Told} (λ x. p .history (toldAfter (i .history) x)) (agrees t q) (λ e. k) (λ e. k)
 
-    history-has : (q : Request) → p .request q → p .history (historyOf (c .files) (c .values) (i .history) q .history)
-    unfolding historyOf untold
+    history-has : (q : Request) → p .request q → p .history (toldAfter (i .history) (historyOf (c .files) (c .values) (i .history) q))
+    unfolding historyOf tellOf untold changedBy applied
     history-has q g =
-        let P : Told → Type 0 = λ x. p .history (x .history) in
+        let P : Told → Type 0 = λ x. p .history (toldAfter (i .history) x) in
         by-cond P (ltb (q .command) 128)
         (λ e. by-cond P (counts 0 q)
         (λ e. by-cond P (hasFile (c .files) (fileOf q))
-        (λ e. by-cond P (acknowledges q) (λ a. l .told (i .history) q g e (h .history)) (λ a. again-has (i .history .memory) q))
+        (λ e. by-cond P (acknowledges q) (λ a. l .told (i .history) q g e (h .history)) (λ a. again-has (i .history .memory) q (h .history)))
         (λ e. h .history))
         (λ e. h .history))
         (λ e. h .history)
 
-    historyMade-has : (q : Request) → p .request q → Makes p (historyMade i q (historyOf (c .files) (c .values) (i .history) q))
-    unfolding historyMade
-    historyMade-has q g =
-        finished-has (i .core) q _ _ (record { core = h .core; areas = h .areas }) (history-has q g)
+    telling-has : (q : Request) → p .request q → SteppedHas p i (telling i (historyOf (c .files) (c .values) (i .history) q))
+    unfolding telling scanned
+    telling-has q g = record { step = record { core = h .core; areas = h .areas }; history = history-has q g }
 
-    restarted-has : StepHas p (refused Done (restarted (i .core)) (i .areas))
-    unfolding refused restarted
+    restarted-has : StepHas p (scanned (restarted (i .core)) (i .areas) (tells []))
+    unfolding scanned restarted
     restarted-has = record { core = record { clock = h .core .clock; hold = l .free; write = l .no-write }; areas = h .areas }
 
-    initialised-has : (q : Request) → Makes p (initialised i q)
-    unfolding initialised
-    initialised-has q =
-        by-cond (Makes p) (counts 0 q)
-        (λ e. finished-has (i .core) q _ _ restarted-has (l .forgotten (i .history) (h .history)))
-        (λ e. beside-has q _ (refused-has (i .core) (i .areas) (h .core) (h .areas) WrongCount))
+    initial-has : (q : Request) → SteppedHas p i (initialStep i q)
+    unfolding initialStep
+    initial-has q =
+        by-cond (SteppedHas p i) (counts 0 q)
+        (λ e. record { step = restarted-has; history = l .forgotten (i .history) (h .history) })
+        (λ e. alone-has _ (scanned-has (i .core) (i .areas) (h .core) (h .areas) _))
+
+    internal-step-has : (q : Request) → p .request q → SteppedHas p i (internalStep c i q)
+    unfolding internalStep
+    internal-step-has q g =
+        by-cond (SteppedHas p i) (eqb (q .command) 0x00) (λ e. initial-has q)
+        (λ e. alone-has _ (internal-has (i .core) (i .areas) (h .core) (h .areas) q g))
+
+    step-has : (q : Request) → p .request q → SteppedHas p i (stepOf c i q)
+    unfolding stepOf
+    step-has q g =
+        by-cond (SteppedHas p i) (breaks (i .core .hold) q) (λ e. alone-has _ brokenOff-has)
+        (λ e. by-cond (SteppedHas p i) (eqb (q .function) 0x04) (λ e. telling-has q g)
+        (λ e. by-cond (SteppedHas p i) (eqb (q .function) 0x20) (λ e. internal-step-has q g)
+        (λ e. alone-has _ (other-has (i .core) (i .areas) (h .core) (h .areas) q g))))
 
     served-has : (q : Request) → p .request q → Makes p (served c i q)
     unfolding served
-    served-has q g =
-        by-cond (Makes p) (breaks (i .core .hold) q) (λ e. beside-has q _ brokenOff-has)
-        (λ e. by-cond (Makes p) (eqb (q .function) 0x04) (λ e. historyMade-has q g)
-        (λ e. by-cond (Makes p) (initialises q) (λ e. initialised-has q)
-        (λ e. beside-has q _ (other-has (i .core) (i .areas) (h .core) (h .areas) q g))))
+    served-has q g = finished-has i q _ (step-has q g)
 
     broadcastMade-has : (s : Step) → StepHas p s → Makes p (broadcastMade i s)
     unfolding Makes broadcastMade quiet
@@ -321,21 +329,26 @@ module _ (c : Config) (p : Parts) (l : Lasts c p) where
     value-has r e = local-has _ _ (record { words = refl; values = e; fixed = refl; block = refl })
 
     store-has : (f : ℕ) (r : Record) (vs : List ℕ) (o : Stored) → storedAs (c .files) (c .values) (i .history .files) f vs ≡ o → Makes p (storeMade i f (recordChars r vs) o)
-    unfolding Makes storeMade quiet
-    store-has f r vs Kept e = record { core = h .core; areas = h .areas; history = l .kept (i .history) f r vs e (h .history) }
+    unfolding Makes storeMade notedIn addedBy changedBy applied
+    store-has f r vs Kept e =
+        record { core = record { clock = h .core .clock; hold = h .core .hold; write = h .core .write }; areas = h .areas; history = l .kept (i .history) f r vs e (h .history) }
     store-has f r vs Full e =
         record { core = record { clock = h .core .clock; hold = h .core .hold; write = h .core .write }; areas = h .areas; history = h .history }
     store-has f r vs NotEquipped e = h
     store-has f r vs WrongValues e = h
 
+    makes-local : (e : Local) → Makes p (localOf c i e)
+    unfolding localOf
+    makes-local (setWord n w) = word-has _ (setWord-long (c .inputs) (i .areas .words) (n .0) w)
+    makes-local (setValue n v) = value-has _ (setValue-long (c .calculations) (i .areas .values) (n .0) v)
+    makes-local (pulses n k) = word-has _ (pulses-long (c .inputs) (i .areas .words) (n .0) k)
+    makes-local (store f e vs) = store-has (f .0) (record { event = e; clock = i .core .clock }) vs _ refl
+
     makes : (e : Event) → p .event e → Makes p (makeOf c i e)
     unfolding makeOf
-    makes (stretch room s) g = stretch-has s (l .heard room s g)
+    makes (stretch s) g = stretch-has (s .chars) (l .heard s g)
     makes (elapsed ms) g = elapsed-has ms
-    makes (setWord n w) g = word-has _ (setWord-long (c .inputs) (i .areas .words) (n .0) w)
-    makes (setValue n v) g = value-has _ (setValue-long (c .calculations) (i .areas .values) (n .0) v)
-    makes (pulses n k) g = word-has _ (pulses-long (c .inputs) (i .areas .words) (n .0) k)
-    makes (store f e vs) g = store-has (f .0) (record { event = e; clock = i .core .clock }) vs _ refl
+    makes (local e) g = makes-local e
 
     -- what a unit makes of an event has what the unit had
     pub make-has : (e : Event) → p .event e → InnerHas p (makeOf c i e .inner)

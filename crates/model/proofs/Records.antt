@@ -11,7 +11,8 @@ use Rattle.model.specs.Config.{Config}
 use Rattle.model.specs.State.{State, freshHistory, freshOf}
 use Rattle.model.specs.Fits.{fits}
 use Rattle.model.specs.Control.{isOf}
-use Rattle.model.specs.Step.{Event, makeOf}
+use Rattle.model.specs.Event.{Event}
+use Rattle.model.specs.Step.{makeOf}
 use Rattle.model.specs.Run.{short, Result, turnedAway, shows, moves, resultOf, nextOf, Entry, entryOf, afterFrom, traceFrom, after, trace}
 use Rattle.model.specs.Formed.{Formed}
 use Rattle.model.specs.Line.{Shown, told, forgot, other, shownBy, shown, Latest, nobody, gave, latestAfter, releasedBy, latestFrom, releasedFrom, storedBy, storedIn, latestIn, releasedIn}

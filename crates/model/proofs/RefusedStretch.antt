@@ -1,7 +1,7 @@
 -- What stands after a stretch that was refused, from what its function left. Assumes nothing.
 use Prim.Native.Nat.{ℕ, _≤_}
 use mathlib.Core.Path.{_≡_, refl, sym, ap, _∙_}
-use mathlib.Core.List.{List, []}
+use mathlib.Core.List.{List}
 use mathlib.Core.Bool.{true, false, not, _&&_, true≢false}
 use lib.Dec.{eqb, leb, ltb}
 use native.Mathlib.Omega.{arith}
@@ -10,23 +10,23 @@ use Rattle.model.specs.Frame.{Request, unitOf, broadcastUnit, whole, che
 use Rattle.model.specs.Outcome.{numberOf, sendingOf, carriedOut}
 use Rattle.model.specs.Config.{Config, within, hasFile}
 use Rattle.model.specs.State.{Files, Inner}
+use Rattle.model.specs.Change.{Change, applied, changedBy}
 use Rattle.model.specs.Scan.{refuses, counts}
 use Rattle.model.specs.Control.{breaks}
-use Rattle.model.specs.History.{Told, acknowledges, fileOf, untold, toldFrom, agrees, againWhen, historyOf}
-use Rattle.model.specs.Step.{Step, withHold, refused, Said, sentAs, answered, Made, quiet, settled, finished, beside, historyMade, initialises, initialised, served, broadcastMade, framed, judged}
+use Rattle.model.specs.History.{Told, acknowledges, fileOf, untold, toldFrom, agrees, againWhen, tellOf, historyOf}
+use Rattle.model.specs.Step.{Step, withHold, scanned, Said, sentAs, answered, Made, quiet, settled, Stepped, finished, alone, telling, initialStep, internalStep, stepOf, served, broadcastMade, framed, judged}
 use Rattle.model.specs.Refusal.{declined, refusedHold, refusedWrite, refusedBroadcast, refusedCore, refusedInner, replies, Refused}
 use Rattle.model.specs.declared.Outcome.{Outcome}
 use Rattle.model.specs.declared.Outcome.the-variants.{Done, NotWhole, CheckWrong, OtherUnit, BroadcastDone, WriteTaken, Unknown, WrongCount, NotValid, TooLong, NothingAgain, SelectTimedOut, BrokenOff, SelectHeld, NothingWaits, WriteHeld, BroadcastRefused, NotConfigured, BufferShort}
 use Rattle.model.specs.declared.Sending.{Sending}
 use Rattle.model.specs.declared.Sending.the-variants.{Normal, Nop, Rst, Unanswered}
 use Rattle.model.specs.declared.Answer.the-variants.{Ended}
-use Rattle.model.specs.declared.Action.the-variants.{Rest}
 use Rattle.model.specs.declared.Core.{Core}
 use Rattle.model.specs.declared.Memory.{Memory}
 use Rattle.model.specs.declared.Memory.the-variants.{Nothing, Remembered}
 use Rattle.model.specs.declared.Heard.{Heard}
 use Rattle.model.proofs.Conditions.{by-cond, by-bool, and-left, and-right}
-use Rattle.model.proofs.Refusing.{itself, Plain, Kept, broadcast-plain, declines, other-kept, broken-off-kept}
+use Rattle.model.proofs.Refusing.{itself, Plain, Kept, broadcast-plain, declines, internal-kept, other-kept, broken-off-kept}
 
 -- ---- a stretch
 
@@ -92,68 +92,78 @@ module _ {A : Type 0} {q : Request} {i : Inner} {w : A → Made} {r : A} where
   meets-made h = record { refuses = h .refuses }
 
 module _ (i : Inner) (q : Request) where
-  beside-meets : (p : Step) → Kept (i .core) (i .areas) itself p → Meets q i (beside i q) p
-  unfolding beside finished refusedInner
-  beside-meets p h =
-      meets (p .outcome) refl
+  alone-meets : (p : Step) → Kept (i .core) (i .areas) itself p → Meets q i (finished i q) (alone i p)
+  unfolding alone finished changedBy applied refusedInner
+  alone-meets p h =
+      meets (p .says .outcome) refl
       (λ n.
       let s = h .spared n in
-      let core : p .core ≡ withHold (i .core) (refusedHold (p .outcome) (i .core .hold)) = ap (λ (x : Step). x .core) (s .same) in
+      let core : p .core ≡ withHold (i .core) (refusedHold (p .says .outcome) (i .core .hold)) = ap (λ (x : Step). x .core) (s .same) in
       let areas : p .areas ≡ i .areas = ap (λ (x : Step). x .areas) (s .same) in
       record {
-        inner = rw (core, areas, settled-declined q (p .outcome) (i .core) (s .row));
+        inner = rw (core, areas, settled-declined q (p .says .outcome) (i .core) (s .row));
         action = ap (λ (x : Step). x .action) (s .same);
-        sent = replies-sent (sendingOf (p .outcome)) _ ∙ answered-declined (p .outcome) (s .row) ∙ sym (s .row);
-        row = omega (arith, declined-range (p .outcome) (s .row));
+        sent = replies-sent (sendingOf (p .says .outcome)) _ ∙ answered-declined (p .says .outcome) (s .row) ∙ sym (s .row);
+        row = omega (arith, declined-range (p .says .outcome) (s .row));
       })
 
   untold-meets : (o : Outcome)
-      → Kept (i .core) (i .areas) itself (record { outcome = o; action = Rest; chars = []; core = i .core; areas = i .areas })
-      → Meets q i (historyMade i q) (untold o (i .history))
-  unfolding historyMade untold beside
-  untold-meets o h = record { refuses = beside-meets _ h .refuses }
+      → Kept (i .core) (i .areas) itself (scanned (i .core) (i .areas) (refuses o))
+      → Meets q i (finished i q) (telling i (untold o (i .history .memory)))
+  unfolding telling untold alone
+  untold-meets o h = alone-meets _ h
 
-  again-meets : (m : Memory) → Meets q i (historyMade i q) (againWhen m (i .history) q)
-  unfolding againWhen historyMade finished carriedOut declined within refusedHold
-  again-meets Nothing = untold-meets NothingAgain (declines refl refl)
-  again-meets (Remembered t) =
-      by-cond (Meets q i (historyMade i q)) (agrees t q) (λ e. carries-out Done refl refl) (λ e. untold-meets NothingAgain (declines refl refl))
+  again-meets : (w : Memory) → i .history .memory ≡ w → Meets q i (finished i q) (telling i (againWhen w (i .history .files) q))
+  unfolding againWhen telling scanned finished carriedOut declined within refusedHold
+  again-meets Nothing k = rw (← k) (untold-meets NothingAgain (declines refl refl))
+  again-meets (Remembered t) k =
+      by-cond {A = Told} (λ x. Meets q i (finished i q) (telling i x)) (agrees t q) (λ e. carries-out Done refl refl)
+      (λ e. rw (← k) (untold-meets NothingAgain (declines refl refl)))
 
-  told-meets : (values : List ℕ) (fs : Files) → Meets q i (historyMade i q) (toldFrom values fs q)
-  unfolding toldFrom historyMade finished carriedOut
-  told-meets values fs = carries-out Done refl refl
+  told-meets : (values : List ℕ) (ch : Change) (fs : Files) → Meets q i (finished i q) (telling i (toldFrom values ch fs q))
+  unfolding toldFrom telling scanned finished carriedOut
+  told-meets values ch fs = carries-out Done refl refl
 
-  history-meets : (files values : List ℕ) → Meets q i (historyMade i q) (historyOf files values (i .history) q)
-  unfolding historyOf declined within refusedHold
+  history-meets : (files values : List ℕ) → Meets q i (finished i q) (telling i (historyOf files values (i .history) q))
+  unfolding historyOf tellOf applied scanned declined within refusedHold
   history-meets files values =
-      let P : Told → Type 0 = Meets q i (historyMade i q) in
+      let P : Told → Type 0 = λ x. Meets q i (finished i q) (telling i x) in
       by-cond P (ltb (q .command) 128)
       (λ e. by-cond P (counts 0 q)
       (λ e. by-cond P (hasFile files (fileOf q))
-      (λ e. by-cond P (acknowledges q) (λ e. told-meets values _) (λ e. again-meets (i .history .memory)))
+      (λ e. by-cond P (acknowledges q) (λ e. told-meets values _ _) (λ e. again-meets (i .history .memory) refl))
       (λ e. untold-meets NotValid (declines refl refl)))
       (λ e. untold-meets WrongCount (declines refl refl)))
       (λ e. untold-meets Unknown (declines refl refl))
 
-  initialised-meets : Meets q i made (initialised i q)
-  unfolding initialised finished refused carriedOut declined within refusedHold
-  initialised-meets =
-      by-cond (Meets q i made) (counts 0 q) (λ e. carries-out Done refl refl)
-      (λ e. meets-made (beside-meets (refused WrongCount (i .core) (i .areas)) (declines refl refl)))
+  initial-meets : Meets q i (finished i q) (initialStep i q)
+  unfolding initialStep finished scanned carriedOut declined within refusedHold
+  initial-meets =
+      by-cond (Meets q i (finished i q)) (counts 0 q) (λ e. carries-out Done refl refl)
+      (λ e. alone-meets (scanned (i .core) (i .areas) (refuses WrongCount)) (declines refl refl))
+
+  internal-meets : (c : Config) → Meets q i (finished i q) (internalStep c i q)
+  unfolding internalStep
+  internal-meets c =
+      by-cond (Meets q i (finished i q)) (eqb (q .command) 0x00) (λ e. initial-meets) (λ e. alone-meets _ (internal-kept (i .core) (i .areas) c q))
+
+  step-meets : (c : Config) → Meets q i (finished i q) (stepOf c i q)
+  unfolding stepOf
+  step-meets c =
+      let P : Stepped → Type 0 = Meets q i (finished i q) in
+      by-cond P (breaks (i .core .hold) q) (λ e. alone-meets _ (broken-off-kept (i .core) (i .areas)))
+      (λ e. by-cond P (eqb (q .function) 0x04) (λ e. history-meets (c .files) (c .values))
+      (λ e. by-cond P (eqb (q .function) 0x20) (λ e. internal-meets c)
+      (λ e. alone-meets _ (other-kept (i .core) (i .areas) c q))))
 
   served-meets : (c : Config) → Meets q i made (served c i q)
   unfolding served
-  served-meets c =
-      let P : Made → Type 0 = Meets q i made in
-      by-cond P (breaks (i .core .hold) q) (λ e. meets-made (beside-meets _ (broken-off-kept (i .core) (i .areas))))
-      (λ e. by-cond P (eqb (q .function) 0x04) (λ e. meets-made (history-meets (c .files) (c .values)))
-      (λ e. by-cond P (initialises q) (λ e. initialised-meets)
-      (λ e. meets-made (beside-meets _ (other-kept (i .core) (i .areas) c q)))))
+  served-meets c = meets-made (step-meets c)
 
   broadcast-meets : (p : Step) → Plain (i .core) (i .areas) itself p → Meets q i (broadcastMade i) p
   unfolding broadcastMade quiet carriedOut refusedInner refusedCore refusedHold refusedWrite refusedBroadcast declined within replies
   broadcast-meets p h =
-      by-bool (eqb (numberOf (p .outcome)) 0) (λ e. carries-out BroadcastDone (rw e) refl)
+      by-bool (eqb (numberOf (p .says .outcome)) 0) (λ e. carries-out BroadcastDone (rw e) refl)
       (λ e. meets BroadcastRefused (rw e)
       (λ n.
       let s = h .unmoved e .same in

@@ -14,14 +14,14 @@ use Rattle.model.specs.Frame.{Request, masterOf}
 use Rattle.model.specs.Outcome.{numberOf, carriedOut}
 use Rattle.model.specs.Config.{Config, has, within}
 use Rattle.model.specs.State.{Areas}
-use Rattle.model.specs.Scan.{Scan, counts, withNoData}
+use Rattle.model.specs.Scan.{Scan, refuses, counts, withNoData}
 use Rattle.model.specs.Inputs.{Changed, hasAccumulator, unreserved, inputsOf, resetCountOf}
 use Rattle.model.specs.Tables.{sendable, sendOf, tableScan, tablesOf}
 use Rattle.model.specs.Calculations.{fitting, valueOf, allOf, pairOf, missingOf, askedOf, calculationsOf}
 use Rattle.model.specs.Control.{Controlled, isOf, takes, selectWhen, operateWhen, resetWhen, selectOf, controlOf}
 use Rattle.model.specs.Blocks.{reaches, waitsFor, writeWhen, writeOf, notExecuted, executes, executeWhen, executeOf, returned, readOf}
 use Rattle.model.specs.Clock.{Timed, digitsFit, clockFits, timeIn, setTimeOf, readTimeOf}
-use Rattle.model.specs.Step.{Step, withHold, withWrite, refused, scanned, changed, controlled, timed, written, executed, internalOf, returnOf, otherOf, brokenOff, broadcastOf}
+use Rattle.model.specs.Step.{Step, withHold, withWrite, scanned, changed, controlled, timed, written, executed, internalOf, returnOf, otherOf, brokenOff, broadcastOf}
 use Rattle.model.specs.Refusal.{declined, refusedHold}
 use Rattle.model.specs.declared.Outcome.{Outcome}
 use Rattle.model.specs.declared.Outcome.the-variants.{Unknown}
@@ -43,25 +43,25 @@ plain o = (leb 6 (numberOf o) && leb (numberOf o) 15) && not (eqb (numberOf o) 1
 
 -- a step that only says no
 abbrev stays : Core → Areas → Step → Step
-stays k a p = record { outcome = p .outcome; action = Rest; chars = p .chars; core = k; areas = a }
+stays k a p = record { says = p .says; action = Rest; core = k; areas = a }
 
 -- a step by itself
 abbrev pub itself : Step → Step
 itself p = p
 
 pub record Unmoved (k : Core) (a : Areas) (p : Step) : Type 0 where
-  pub row : plain (p .outcome) ≡ true
+  pub row : plain (p .says .outcome) ≡ true
   pub same : p ≡ stays k a p
 
 -- r, made into a step by w, is done or leaves all as it was
 pub record Plain {A : Type 0} (k : Core) (a : Areas) (w : A → Step) (r : A) : Type 0 where
-  pub unmoved : eqb (numberOf (w r .outcome)) 0 ≡ false → Unmoved k a (w r)
+  pub unmoved : eqb (numberOf (w r .says .outcome)) 0 ≡ false → Unmoved k a (w r)
 
 module _ {A : Type 0} {k : Core} {a : Areas} {w : A → Step} {r : A} where
-  does : eqb (numberOf (w r .outcome)) 0 ≡ true → Plain k a w r
+  does : eqb (numberOf (w r .says .outcome)) 0 ≡ true → Plain k a w r
   does d = record { unmoved = λ e. absurd (true≢false (sym d ∙ e)) }
 
-  leaves : plain (w r .outcome) ≡ true → w r ≡ stays k a (w r) → Plain k a w r
+  leaves : plain (w r .says .outcome) ≡ true → w r ≡ stays k a (w r) → Plain k a w r
   leaves p s = record { unmoved = λ e. record { row = p; same = s } }
 
   plain-step : Plain k a w r → Plain k a itself (w r)
@@ -149,15 +149,15 @@ module _ (k : Core) (a : Areas) where
 
 -- a step that says no, and lets go of the select where its outcome says so
 abbrev yields : Core → Areas → Step → Step
-yields k a p = record { outcome = p .outcome; action = Rest; chars = p .chars; core = withHold k (refusedHold (p .outcome) (k .hold)); areas = a }
+yields k a p = record { says = p .says; action = Rest; core = withHold k (refusedHold (p .says .outcome) (k .hold)); areas = a }
 
 pub record Spared (k : Core) (a : Areas) (p : Step) : Type 0 where
-  pub row : declined (p .outcome) ≡ true
+  pub row : declined (p .says .outcome) ≡ true
   pub same : p ≡ yields k a p
 
 -- r, made into a step by w, is carried out or changes no more than a refusal may
 pub record Kept {A : Type 0} (k : Core) (a : Areas) (w : A → Step) (r : A) : Type 0 where
-  pub spared : carriedOut (w r .outcome) ≡ false → Spared k a (w r)
+  pub spared : carriedOut (w r .says .outcome) ≡ false → Spared k a (w r)
 
 plain-declined : (o : Outcome) → plain o ≡ true → declined o ≡ true
 unfolding declined within
@@ -170,10 +170,10 @@ plain-hold o h e =
     rw n
 
 module _ {A : Type 0} {k : Core} {a : Areas} {w : A → Step} {r : A} where
-  carries : carriedOut (w r .outcome) ≡ true → Kept k a w r
+  carries : carriedOut (w r .says .outcome) ≡ true → Kept k a w r
   carries d = record { spared = λ e. absurd (true≢false (sym d ∙ e)) }
 
-  pub declines : declined (w r .outcome) ≡ true → w r ≡ yields k a (w r) → Kept k a w r
+  pub declines : declined (w r .says .outcome) ≡ true → w r ≡ yields k a (w r) → Kept k a w r
   declines p s = record { spared = λ e. record { row = p; same = s } }
 
   kept-step : Kept k a w r → Kept k a itself (w r)
@@ -185,7 +185,7 @@ module _ {A : Type 0} {k : Core} {a : Areas} {w : A → Step} {r : A} where
       record {
         spared = λ e.
             let u = h .unmoved (or-left _ _ e) in
-            record { row = plain-declined _ (u .row); same = rw (plain-hold (w r .outcome) (k .hold) (u .row)) (u .same) };
+            record { row = plain-declined _ (u .row); same = rw (plain-hold (w r .says .outcome) (k .hold) (u .row)) (u .same) };
       }
 
 module _ (k : Core) (a : Areas) where
@@ -226,13 +226,13 @@ module _ (k : Core) (a : Areas) where
       (λ e. declines refl refl))))
 
   -- and so 10h leaves the select where it is refused, but with 11 or 12
-  pub control-leaves : (table : List ℕ) (h : Hold) (q : Request) → declined (controlOf table h q .outcome) ≡ true
-      → (eqb (numberOf (controlOf table h q .outcome)) 11 || eqb (numberOf (controlOf table h q .outcome)) 12) ≡ false → controlOf table h q .hold ≡ h
+  pub control-leaves : (table : List ℕ) (h : Hold) (q : Request) → declined (controlOf table h q .says .outcome) ≡ true
+      → (eqb (numberOf (controlOf table h q .says .outcome)) 11 || eqb (numberOf (controlOf table h q .says .outcome)) 12) ≡ false → controlOf table h q .hold ≡ h
   unfolding carriedOut declined within controlled refusedHold
   control-leaves table h q d e =
-      let n = numberOf (controlOf table h q .outcome) in
+      let n = numberOf (controlOf table h q .says .outcome) in
       let six : 6 ≤ n = leb-true 6 n (and-left (leb 6 n) (leb n 15) d) in
-      let said : carriedOut (controlOf table h q .outcome) ≡ false =
+      let said : carriedOut (controlOf table h q .says .outcome) ≡ false =
       rw (ne-eqb n 0 (omega arith), ne-eqb n 4 (omega arith), ne-eqb n 5 (omega arith)) refl in
       ap (λ (p : Step). p .core .hold) (control-kept table h q .spared said .same) ∙ rw e refl
 
@@ -247,11 +247,11 @@ module _ (k : Core) (a : Areas) where
 
   -- ---- by function code
 
-  unknown-kept : Kept k a itself (refused Unknown k a)
-  unfolding refused declined within refusedHold
+  unknown-kept : Kept k a itself (scanned k a (refuses Unknown))
+  unfolding scanned declined within refusedHold
   unknown-kept = declines refl refl
 
-  internal-kept : (c : Config) (q : Request) → Kept k a itself (internalOf c k a q)
+  pub internal-kept : (c : Config) (q : Request) → Kept k a itself (internalOf c k a q)
   unfolding internalOf
   internal-kept c q =
       let P : Step → Type 0 = Kept k a itself in
@@ -277,17 +277,16 @@ module _ (k : Core) (a : Areas) where
       (λ e. by-cond P (eqb (q .function) 0x03) (λ e. kept-step (plain-kept (calculations-plain k a (c .calculations) (a .values) q)))
       (λ e. by-cond P (eqb (q .function) 0x0A) (λ e. kept-step (plain-kept (tables-plain k a (c .inputs) (a .fixed) (a .words) q)))
       (λ e. by-cond P (eqb (q .function) 0x10) (λ e. kept-step (control-kept (c .outputs) (k .hold) q))
-      (λ e. by-cond P (eqb (q .function) 0x20) (λ e. internal-kept c q)
       (λ e. by-cond P (eqb (q .function) 0x28) (λ e. return-kept q)
-      (λ e. unknown-kept))))))
+      (λ e. unknown-kept)))))
 
   pub broken-off-kept : Kept k a itself (brokenOff k a)
-  unfolding brokenOff refused declined within refusedHold
+  unfolding brokenOff scanned declined within refusedHold
   broken-off-kept = declines refl refl
 
   -- a broadcast is done or leaves all as it was
   pub broadcast-plain : (c : Config) (q : Request) → Plain k a itself (broadcastOf c k a q)
-  unfolding broadcastOf refused
+  unfolding broadcastOf scanned
   broadcast-plain c q =
       let P : Step → Type 0 = Plain k a itself in
       by-cond P (eqb (q .function) 0x20 && eqb (q .command) 0x11) (λ e. plain-step (reset-count-plain k a (c .inputs) q))

@@ -8,21 +8,23 @@ use lib.Seq.{take-append-le}
 use lib.Dec.{eqb, ltb}
 use native.Mathlib.Nat.{div-lt-iff-lt-mul}
 use native.Mathlib.Omega.{arith}
-use borrow.Author.Tests.{eqb-true, ltb-true}
+use borrow.Author.Tests.{eqb-true, eq-eqb, ltb-true}
 use Rattle.model.specs.Frame.{Request, unitOf, masterOf, broadcastUnit, heardOf, requestIn}
 use Rattle.model.specs.Outcome.{sendingOf, functionBits, replyFunction}
 use Rattle.model.specs.Config.{Config, hasFile, sizeOf}
-use Rattle.model.specs.State.{Areas, Files, History, Inner, heldIn, storeIn, releaseIn}
-use Rattle.model.specs.Scan.{counts}
+use Rattle.model.specs.State.{Areas, Files, History, Inner, heldIn, storeIn}
+use Rattle.model.specs.Change.{Change, stays, cuts, adds, applied, addedBy, changedBy}
+use Rattle.model.specs.Scan.{tells, refuses, counts}
 use Rattle.model.specs.Control.{isOf, breaks}
-use Rattle.model.specs.History.{Told, acknowledges, dumps, fileOf, untold, flat, historyChars, releaseFor, mostOf, toldFrom, agrees, againWhen, historyOf, recordChars, storedAs}
-use Rattle.model.specs.Step.{Event, stretch, elapsed, setWord, setValue, pulses, store, Step, refused, Made, quiet, finished, beside, brokenOff, historyMade, initialises, restarted, forgotten, initialised, served, otherOf, broadcastOf, broadcastMade, framed, judged, elapsedMade, localMade, wordMade, valueMade, storeMade, makeOf}
+use Rattle.model.specs.History.{Told, acknowledges, dumps, fileOf, untold, flat, historyChars, freedFor, mostOf, toldFrom, agrees, againWhen, tellOf, historyOf, recordChars, storedAs}
+use Rattle.model.specs.Event.{Local, setWord, setValue, pulses, store, Event, stretch, elapsed, local}
+use Rattle.model.specs.Step.{Step, scanned, internalOf, Made, quiet, Stepped, finished, alone, brokenOff, telling, restarted, initialStep, internalStep, stepOf, served, otherOf, broadcastOf, broadcastMade, framed, judged, elapsedMade, localMade, wordMade, valueMade, storeMade, localOf, makeOf}
 use Rattle.model.specs.Port.{sentChars}
 use Rattle.model.specs.Formed.{AllSized}
-use Rattle.model.specs.Line.{Shown, told, forgot, other, shownFor, shownIn, shownBy, Latest, nobody, gave, latestAfter, releasedBy, wasKept, storedBy}
+use Rattle.model.specs.Line.{Shown, told, forgot, other, initialises, shownFor, shownIn, shownBy, Latest, nobody, gave, latestAfter, releasedBy, wasKept, storedLocally, storedBy}
 use Rattle.model.specs.Demand3.{rememberedAs}
 use Rattle.model.specs.declared.Outcome.{Outcome}
-use Rattle.model.specs.declared.Outcome.the-variants.{Done, Unknown, WrongCount, NotValid, NothingAgain, OtherUnit}
+use Rattle.model.specs.declared.Outcome.the-variants.{Unknown, WrongCount, NotValid, NothingAgain, OtherUnit}
 use Rattle.model.specs.declared.Stored.{Stored}
 use Rattle.model.specs.declared.Stored.the-variants.{Kept, Full, NotEquipped, WrongValues}
 use Rattle.model.specs.declared.Answer.{Answer}
@@ -36,8 +38,8 @@ use Rattle.model.specs.declared.Core.{Core}
 use Rattle.model.specs.declared.HistoryReply.{HistoryReply}
 use Rattle.model.specs.declared.Memory.{Memory}
 use Rattle.model.specs.declared.Memory.the-variants.{Nothing, Remembered}
-use Rattle.model.proofs.Conditions.{by-cond, false-true, and-left, and-right}
-use Rattle.model.proofs.FileLaws.{held-store, held-release, stored-kept}
+use Rattle.model.proofs.Conditions.{by-cond, false-true, and-left, and-right, and-both}
+use Rattle.model.proofs.FileLaws.{held-store, held-front, stored-kept}
 use Rattle.model.proofs.Shape.{sized-rest}
 use Rattle.model.proofs.Shown.{shown-beside, shown-refused, shown-forgot, shown-told}
 
@@ -110,17 +112,17 @@ file-quantity values f d n = by-cond (λ k. min n k < 128) d (λ e. omega (arith
 
 -- the records of the latest reply, if it went to this master, stood before what is held then
 released-for : (w : Memory) (fs : Files) (m : Master) (f : ℕ) (zs : List ℕ) (ps : List (List ℕ)) (g : ℕ)
-    → heldIn fs g ≡ releasedBy (rememberedAs w fs) (told m f true zs ps) g ++ heldIn (releaseFor w fs m) g
-unfolding releaseFor releasedBy
+    → heldIn fs g ≡ releasedBy (rememberedAs w fs) (told m f true zs ps) g ++ heldIn (applied (freedFor w m) fs) g
+unfolding freedFor applied releasedBy
 released-for Nothing fs m f zs ps g = refl
 released-for (Remembered t) fs m f zs ps g = go (isOf (t .master) m)
   where
-    go : (a : Bool) → heldIn fs g ≡ cond (a && eqb (t .file .0) g) (take (t .quantity) (heldIn fs (t .file .0))) [] ++ heldIn (cond a (releaseIn fs (t .file .0) (t .quantity)) fs) g
-    go true = held-release fs (t .file .0) g (t .quantity)
+    go : (a : Bool) → heldIn fs g ≡ cond (a && eqb (t .file .0) g) (take (t .quantity) (heldIn fs (t .file .0))) [] ++ heldIn (applied (cond a (cuts (t .file .0) 0 (t .quantity)) stays) fs) g
+    go true = held-front fs (t .file .0) g (t .quantity)
     go false = refl
 
 -- what is left is sized as before
-sized-for : {n : ℕ} (w : Memory) (fs : Files) (m : Master) (g : ℕ) → AllSized n (heldIn fs g) → AllSized n (heldIn (releaseFor w fs m) g)
+sized-for : {n : ℕ} (w : Memory) (fs : Files) (m : Master) (g : ℕ) → AllSized n (heldIn fs g) → AllSized n (heldIn (applied (freedFor w m) fs) g)
 sized-for w fs m g h = sized-rest (releasedBy (rememberedAs w fs) (told m 0 true [] []) g) (rw (released-for w fs m 0 [] [] g) at h)
 
 -- ---- a frame for this unit
@@ -130,36 +132,49 @@ Fine : Config → Latest → Inner → Mark → Request → Made → Type 0
 Fine c l i mark q m = Moved l (i .history) (shownFor c q (sentChars mark (m .sent))) nothing (m .inner .history)
 
 module _ (c : Config) (l : Latest) (i : Inner) (mark : Mark) (q : Request) (t : Matches (i .history) l) where
-  refused-fine : (p : Step) → 64 ≤ functionBits (sendingOf (p .outcome)) → Fine c l i mark q (beside i q p)
-  unfolding Fine beside finished replyFunction
-  refused-fine p h = still t (shown-refused c q mark (sendingOf (p .outcome)) _ (omega arith))
+  refused-fine : (p : Step) → 64 ≤ functionBits (sendingOf (p .says .outcome)) → Fine c l i mark q (finished i q (alone i p))
+  unfolding Fine alone finished changedBy applied replyFunction
+  refused-fine p h = still t (shown-refused c q mark (sendingOf (p .says .outcome)) _ (omega arith))
 
   -- a function that sees no history: its code alone tells that it shows none
-  keeps-fine : (p : Step) → eqb (q .function) 0x04 ≡ false → initialises q ≡ false → Fine c l i mark q (beside i q p)
-  unfolding Fine beside finished
+  keeps-fine : (p : Step) → eqb (q .function) 0x04 ≡ false → initialises q ≡ false → Fine c l i mark q (finished i q (alone i p))
+  unfolding Fine alone finished changedBy applied
   keeps-fine p a b = still t (shown-beside c q _ a b)
 
-  forgot-moved : Moved l (i .history) forgot nothing (forgotten (i .history))
-  unfolding forgotten latestAfter
+  forgot-moved : Moved l (i .history) forgot nothing (changedBy stays Nothing (i .history))
+  unfolding changedBy applied latestAfter
   forgot-moved = record { repeats = shown-else refl; moved = λ g. unreleased (i .history .files) g (released-forgot l g); matches = record { latest = refl; holds = tt } }
 
-  forgot-fine : initialises q ≡ true → Fine c l i mark q (finished (i .core) q (refused Done (restarted (i .core)) (i .areas)) (forgotten (i .history)))
-  unfolding Fine finished refused
-  forgot-fine a =
-      as-shown (shown-forgot c q mark (i .core) (refused Done (restarted (i .core)) (i .areas)) (forgotten (i .history)) refl a) forgot-moved
+  abbrev begun : Stepped
+  begun = record { step = scanned (restarted (i .core)) (i .areas) (tells []); memory = Nothing; change = stays }
 
-  initialised-fine : initialises q ≡ true → Fine c l i mark q (initialised i q)
-  unfolding initialised refused
-  initialised-fine a =
-      by-cond (Fine c l i mark q) (counts 0 q) (λ n. forgot-fine a) (λ n. refused-fine (refused WrongCount (i .core) (i .areas)) (omega arith))
+  forgot-fine : initialises q ≡ true → Fine c l i mark q (finished i q begun)
+  unfolding Fine finished scanned
+  forgot-fine a = as-shown (shown-forgot c q i mark begun refl a) forgot-moved
 
-  untold-fine : (o : Outcome) → 64 ≤ functionBits (sendingOf o) → Fine c l i mark q (historyMade i q (untold o (i .history)))
-  unfolding Fine historyMade untold finished replyFunction
+  initial-fine : initialises q ≡ true → Fine c l i mark q (finished i q (initialStep i q))
+  unfolding initialStep scanned
+  initial-fine a =
+      by-cond (λ m. Fine c l i mark q (finished i q m)) (counts 0 q) (λ n. forgot-fine a)
+      (λ n. refused-fine (scanned (i .core) (i .areas) (refuses WrongCount)) (omega arith))
+
+  internal-fine : q .function ≡ 0x20 → Fine c l i mark q (finished i q (internalStep c i q))
+  unfolding internalStep initialises
+  internal-fine a =
+      by-cond (λ m. Fine c l i mark q (finished i q m)) (eqb (q .command) 0x00)
+      (λ e. initial-fine (and-both (eq-eqb _ _ a) e))
+      (λ e. keeps-fine (internalOf c (i .core) (i .areas) q) (rw a) (rw (a, e)))
+
+  untold-fine : (o : Outcome) → 64 ≤ functionBits (sendingOf o) → Fine c l i mark q (finished i q (telling i (untold o (i .history .memory))))
+  unfolding Fine telling scanned untold finished changedBy applied replyFunction
   untold-fine o h = still t (shown-refused c q mark (sendingOf o) _ (omega arith))
 
   -- an acknowledging request: the records of the latest reply leave, and the new reply is remembered
+  abbrev freed : Change
+  freed = freedFor (i .history .memory) (masterOf (q .address))
+
   abbrev left : Files
-  left = releaseFor (i .history .memory) (i .history .files) (masterOf (q .address))
+  left = applied freed (i .history .files)
 
   told-moved : (n : ℕ) (b : Bool) → n < 128 → n ≤ length (heldIn left (fileOf q))
       → Moved l (i .history) (told (masterOf (q .address)) (fileOf q) true (historyChars n b (heldIn left (fileOf q))) (take n (heldIn left (fileOf q)))) nothing
@@ -173,15 +188,15 @@ module _ (c : Config) (l : Latest) (i : Inner) (mark : Mark) (q : Request) (t : 
       record { repeats = shown-else refl; moved = λ g. append-nil (heldIn (i .history .files) g) ∙ k g; matches = record { latest = refl; holds = (most, few) } }
 
   module _ (sized : (g : ℕ) → AllSized (sizeOf (c .values) g) (heldIn (i .history .files) g)) (a : q .function ≡ 0x04) where
-    acked-fine : acknowledges q ≡ true → Fine c l i mark q (historyMade i q (toldFrom (c .values) left q))
-    unfolding Fine toldFrom historyMade finished
+    acked-fine : acknowledges q ≡ true → Fine c l i mark q (finished i q (telling i (toldFrom (c .values) freed left q)))
+    unfolding Fine toldFrom telling scanned finished changedBy
     acked-fine k =
         let rs = heldIn left (fileOf q) in
         let n = min (length rs) (mostOf (c .values) (fileOf q) (dumps q)) in
         let few = file-quantity (c .values) (fileOf q) (dumps q) (length rs) in
         let most : n ≤ length rs = omega arith in
         let m = told-moved n (ltb n (length rs)) few most in
-        let e = shown-told c q i mark n (ltb n (length rs)) rs (toldFrom (c .values) left q .history) a few most (sized-for (i .history .memory) (i .history .files) (masterOf (q .address)) (fileOf q) (sized (fileOf q))) in
+        let e = shown-told c q i mark n (ltb n (length rs)) rs (toldFrom (c .values) freed left q .memory) freed a few most (sized-for (i .history .memory) (i .history .files) (masterOf (q .address)) (fileOf q) (sized (fileOf q))) in
         as-shown (e ∙ ap (λ (x : Bool). told (masterOf (q .address)) (fileOf q) x (historyChars n (ltb n (length rs)) rs) (take n rs)) k) m
 
 -- a repeat: the same records to the same master
@@ -203,13 +218,13 @@ module _ (c : Config) (l : Latest) (k : Core) (a : Areas) (fs : Files) (mark : M
     (sized : (g : ℕ) → AllSized (sizeOf (c .values) g) (heldIn fs g)) (function : q .function ≡ 0x04) (plain : acknowledges q ≡ false) where
   repeat-fine : (r : HistoryReply) → Matches (record { memory = Remembered r; files = fs }) l → r .master ≡ masterOf (q .address) → r .file .0 ≡ fileOf q
       → Fine c l (holding k a (Remembered r) fs) mark q
-      (historyMade (holding k a (Remembered r) fs) q
-      (record { outcome = Done; chars = historyChars (r .quantity) (r .more) (heldIn fs (r .file .0)); history = record { memory = Remembered r; files = fs } }))
-  unfolding Fine latestAfter historyMade finished
+      (finished (holding k a (Remembered r) fs) q (telling (holding k a (Remembered r) fs)
+      (record { says = tells (historyChars (r .quantity) (r .more) (heldIn fs (r .file .0))); memory = Remembered r; change = stays })))
+  unfolding Fine latestAfter telling scanned finished changedBy applied
   repeat-fine r t em ef =
       let rs = take (r .quantity) (heldIn fs (r .file .0)) in
       let e =
-      shown-told c q (holding k a (Remembered r) fs) mark (r .quantity) (r .more) (heldIn fs (r .file .0)) (record { memory = Remembered r; files = fs }) function (t .holds .1) (t .holds .0)
+      shown-told c q (holding k a (Remembered r) fs) mark (r .quantity) (r .more) (heldIn fs (r .file .0)) (Remembered r) stays function (t .holds .1) (t .holds .0)
       (rw (← ef) (sized (r .file .0))) in
       let zs = historyChars (r .quantity) (r .more) (heldIn fs (r .file .0)) in
       let s : told (masterOf (q .address)) (fileOf q) (acknowledges q) zs rs ≡ told (r .master) (r .file .0) false zs rs = rw (← em, ← ef, plain) in
@@ -221,20 +236,20 @@ module _ (c : Config) (l : Latest) (k : Core) (a : Areas) (fs : Files) (mark : M
       })
 
   again-fine : (w : Memory) → Matches (record { memory = w; files = fs }) l
-      → Fine c l (holding k a w fs) mark q (historyMade (holding k a w fs) q (againWhen w (record { memory = w; files = fs }) q))
+      → Fine c l (holding k a w fs) mark q (finished (holding k a w fs) q (telling (holding k a w fs) (againWhen w fs q)))
   unfolding againWhen
   again-fine Nothing t = untold-fine c l (holding k a Nothing fs) mark q t NothingAgain (omega arith)
   again-fine (Remembered r) t =
-      by-cond {A = Told} (λ x. Fine c l (holding k a (Remembered r) fs) mark q (historyMade (holding k a (Remembered r) fs) q x)) (agrees r q)
+      by-cond {A = Told} (λ x. Fine c l (holding k a (Remembered r) fs) mark q (finished (holding k a (Remembered r) fs) q (telling (holding k a (Remembered r) fs) x))) (agrees r q)
       (λ e. let n = agrees-names r q e in repeat-fine r t (n .0) (n .1))
       (λ e. untold-fine c l (holding k a (Remembered r) fs) mark q t NothingAgain (omega arith))
 
 module _ (c : Config) (l : Latest) (i : Inner) (mark : Mark) (t : Matches (i .history) l)
     (sized : (g : ℕ) → AllSized (sizeOf (c .values) g) (heldIn (i .history .files) g)) where
-  history-fine : (q : Request) → q .function ≡ 0x04 → Fine c l i mark q (historyMade i q (historyOf (c .files) (c .values) (i .history) q))
-  unfolding historyOf
+  history-fine : (q : Request) → q .function ≡ 0x04 → Fine c l i mark q (finished i q (telling i (historyOf (c .files) (c .values) (i .history) q)))
+  unfolding historyOf tellOf applied
   history-fine q a =
-      let P : Told → Type 0 = λ x. Fine c l i mark q (historyMade i q x) in
+      let P : Told → Type 0 = λ x. Fine c l i mark q (finished i q (telling i x)) in
       by-cond P (ltb (q .command) 128)
       (λ e. by-cond P (counts 0 q)
       (λ e. by-cond P (hasFile (c .files) (fileOf q))
@@ -245,12 +260,13 @@ module _ (c : Config) (l : Latest) (i : Inner) (mark : Mark) (t : Matches (i .hi
       (λ e. untold-fine c l i mark q t Unknown (omega arith))
 
   served-fine : (q : Request) → Fine c l i mark q (served c i q)
-  unfolding served brokenOff refused
+  unfolding served stepOf brokenOff scanned initialises
   served-fine q =
-      let P : Made → Type 0 = Fine c l i mark q in
+      let P : Stepped → Type 0 = λ m. Fine c l i mark q (finished i q m) in
       by-cond P (breaks (i .core .hold) q) (λ e. refused-fine c l i mark q t (brokenOff (i .core) (i .areas)) (omega arith))
       (λ e. by-cond P (eqb (q .function) 0x04) (λ a. history-fine q (eqb-true _ _ a))
-      (λ a. by-cond P (initialises q) (initialised-fine c l i mark q t) (keeps-fine c l i mark q t (otherOf c (i .core) (i .areas) q) a)))
+      (λ a. by-cond P (eqb (q .function) 0x20) (λ b. internal-fine c l i mark q t (eqb-true _ _ b))
+      (λ b. keeps-fine c l i mark q t (otherOf c (i .core) (i .areas) q) a (rw b))))
 
   -- ---- any other stretch
 
@@ -294,8 +310,8 @@ same-store (Remembered t) fs gs new e h =
 
 module _ (c : Config) (l : Latest) (i : Inner) (mark : Mark) (t : Matches (i .history) l) where
   store-moved : (f : ℕ) (r : List ℕ) → f < length (i .history .files)
-      → Moved l (i .history) other (λ g. cond (eqb f g) (r ∷ []) []) (record { memory = i .history .memory; files = storeIn (i .history .files) f r })
-  unfolding latestAfter
+      → Moved l (i .history) other (λ g. cond (eqb f g) (r ∷ []) []) (changedBy (adds f r) (i .history .memory) (i .history))
+  unfolding changedBy applied latestAfter
   store-moved f r there =
       let fs = i .history .files in
       let k : (g : ℕ) → heldIn (storeIn fs f r) g ≡ heldIn fs g ++ cond (eqb f g) (r ∷ []) [] = λ g. held-store fs f g r there in
@@ -307,8 +323,8 @@ module _ (c : Config) (l : Latest) (i : Inner) (mark : Mark) (t : Matches (i .hi
       }
 
   store-fine : (f : File) (e : ℕ) (vs : List ℕ) (x : Stored) → (x ≡ Kept → f .0 < length (i .history .files))
-      → FineEvent c l i mark (store f e vs) (storeMade i (f .0) (recordChars (record { event = e; clock = i .core .clock }) vs) x)
-  unfolding storeMade quiet sentChars shownBy storedBy wasKept
+      → FineEvent c l i mark (local (store f e vs)) (storeMade i (f .0) (recordChars (record { event = e; clock = i .core .clock }) vs) x)
+  unfolding storeMade addedBy changedBy applied sentChars shownBy storedBy storedLocally wasKept
   store-fine f e vs Kept there = store-moved (f .0) (recordChars (record { event = e; clock = i .core .clock }) vs) (there refl)
   store-fine f e vs Full there = still t refl
   store-fine f e vs NotEquipped there = still t refl
@@ -322,13 +338,13 @@ module _ (c : Config) (l : Latest) (i : Inner) (mark : Mark) (t : Matches (i .hi
   unheard-fine s (Whole f) = refl
 
   pub away-fine : (o : Outcome) (e : Event) → Moved l (i .history) (shownBy c e []) (storedBy e (i .core .clock) (Ended o)) (i .history)
-  unfolding shownBy storedBy wasKept
-  away-fine o (stretch room s) = still t (unheard-fine s (heardOf s))
+  unfolding shownBy storedBy storedLocally wasKept
+  away-fine o (stretch s) = still t (unheard-fine (s .chars) (heardOf (s .chars)))
   away-fine o (elapsed ms) = still t refl
-  away-fine o (setWord n w) = still t refl
-  away-fine o (setValue n v) = still t refl
-  away-fine o (pulses n p) = still t refl
-  away-fine o (store f e vs) = still t refl
+  away-fine o (local (setWord n w)) = still t refl
+  away-fine o (local (setValue n v)) = still t refl
+  away-fine o (local (pulses n p)) = still t refl
+  away-fine o (local (store f e vs)) = still t refl
 
   module _ (sized : (g : ℕ) → AllSized (sizeOf (c .values) g) (heldIn (i .history .files) g)) (long : length (i .history .files) ≡ 32) where
     stored-there : (f : ℕ) (vs : List ℕ) → storedAs (c .files) (c .values) (i .history .files) f vs ≡ Kept → f < length (i .history .files)
@@ -337,11 +353,15 @@ module _ (c : Config) (l : Latest) (i : Inner) (mark : Mark) (t : Matches (i .hi
         let h = ltb-true f 32 (and-left (ltb f 32) _ (stored-kept (c .files) (c .values) (i .history .files) f vs e .equipped)) in
         omega arith
 
+    local-fine : (e : Local) → FineEvent c l i mark (local e) (localOf c i e)
+    unfolding localOf shownBy storedBy storedLocally quiet sentChars wordMade valueMade localMade
+    local-fine (setWord n w) = still t refl
+    local-fine (setValue n v) = still t refl
+    local-fine (pulses n p) = still t refl
+    local-fine (store f e vs) = store-fine f e vs (storedAs (c .files) (c .values) (i .history .files) (f .0) vs) (stored-there (f .0) vs)
+
     pub made-fine : (e : Event) → FineEvent c l i mark e (makeOf c i e)
-    unfolding makeOf shownBy storedBy quiet sentChars elapsedMade wordMade valueMade localMade
-    made-fine (stretch room s) = judged-fine c l i mark t sized s (heardOf s)
+    unfolding makeOf shownBy storedBy quiet sentChars elapsedMade
+    made-fine (stretch s) = judged-fine c l i mark t sized (s .chars) (heardOf (s .chars))
     made-fine (elapsed ms) = still t refl
-    made-fine (setWord n w) = still t refl
-    made-fine (setValue n v) = still t refl
-    made-fine (pulses n p) = still t refl
-    made-fine (store f e vs) = store-fine f e vs (storedAs (c .files) (c .values) (i .history .files) (f .0) vs) (stored-there (f .0) vs)
+    made-fine (local e) = local-fine e

@@ -10,7 +10,6 @@ use Rattle.model.specs.Frame.{Request}
 use Rattle.model.specs.Config.{within}
 use Rattle.model.specs.Scan.{counts, withNoData, tells}
 use Rattle.model.specs.Clock.{bcd, fromBcd, digits, clockFits, timeIn, digitsFit, Timed, setTimeOf, timeChars, readTimeOf}
-use Rattle.model.specs.declared.Outcome.the-variants.{Done}
 use Rattle.model.specs.declared.Clock.{Clock}
 use Rattle.model.proofs.Conditions.{and-left, and-right, and-both}
 
@@ -75,7 +74,7 @@ module _ (t : Clock) (h : clockFits t ≡ true) where
       (and-both (bcd-digits (t .minute) (omega arith)) (and-both (bcd-digits (t .second) (omega arith)) (le-leb (t .ms / 256) 15 (omega arith))))))
 
   -- they are taken, and the clock is that time then, whatever it was
-  pub set-time : (k : Clock) (q : Request) → q .body ≡ sevenOf t → setTimeOf k q ≡ record { outcome = Done; clock = t }
+  pub set-time : (k : Clock) (q : Request) → q .body ≡ sevenOf t → setTimeOf k q ≡ record { says = tells []; clock = t }
   unfolding setTimeOf counts
   set-time k q e = rw (e, told-digits, told-back, h)
 

@@ -1,9 +1,8 @@
 -- The lists that a unit keeps have their lengths in every run: the areas, the files, and each file's records. Assumes nothing.
-use Prim.Native.Nat.{ℕ, _+_, _*_, _<_}
+use Prim.Native.Nat.{ℕ, zero, suc, _+_, _*_, _<_}
 use mathlib.Core.Path.{_≡_, refl, ap, _∙_}
 use mathlib.Core.List.{List, [], _∷_, _++_}
-use mathlib.Core.Bool.{cond}
-use lib.ListN.{length, take}
+use lib.ListN.{length, take, drop, take-append-drop}
 use lib.Dec.{eqb, ltb}
 use native.Mathlib.Omega.{arith}
 use borrow.Author.Tests.{eqb-true, ltb-true}
@@ -12,10 +11,12 @@ use Rattle.chars.proofs.WordLaws.{length-word}
 use Rattle.chars.proofs.GatherLaws.{gather-each}
 use Rattle.model.specs.Frame.{Request, masterOf}
 use Rattle.model.specs.Config.{Config, hasFile, sizeOf}
-use Rattle.model.specs.State.{Areas, History, State, heldIn, storeIn, releaseIn, freshAreas, freshHistory, freshOf}
+use Rattle.model.specs.State.{Areas, History, State, heldIn, freshAreas, freshHistory, freshOf}
+use Rattle.model.specs.Change.{stays, cuts, adds, applied, changedBy}
 use Rattle.model.specs.Control.{isOf}
-use Rattle.model.specs.History.{releaseFor, toldFrom, recordChars, storedAs}
-use Rattle.model.specs.Step.{Event, forgotten, makeOf}
+use Rattle.model.specs.History.{freedFor, toldFrom, recordChars, storedAs}
+use Rattle.model.specs.Event.{Event}
+use Rattle.model.specs.Step.{makeOf}
 use Rattle.model.specs.Run.{moves, nextOf, after}
 use Rattle.model.specs.Formed.{AllSized, none, one, Formed}
 use Rattle.model.specs.declared.Stored.the-variants.{Kept}
@@ -24,7 +25,7 @@ use Rattle.model.specs.declared.Record.{Record}
 use Rattle.model.specs.declared.Memory.{Memory}
 use Rattle.model.specs.declared.Memory.the-variants.{Nothing, Remembered}
 use Rattle.model.proofs.Conditions.{by-cond, and-left}
-use Rattle.model.proofs.FileLaws.{held-store, held-release, length-store, length-release, held-none, stored-kept}
+use Rattle.model.proofs.FileLaws.{held-store, held-cut, length-store, length-cut, held-none, toldAfter, newTold, stored-kept}
 use Rattle.model.proofs.Parts.{Parts, InnerHas, Lasts, make-has}
 use Rattle.model.proofs.Runs.{by-next, by-run}
 
@@ -34,9 +35,17 @@ pub sized-append : {n : ℕ} {xs ys : List (List ℕ)} → AllSized n xs → All
 sized-append none k = k
 sized-append (one e h) k = one e (sized-append h k)
 
+pub sized-front : {n : ℕ} (k : ℕ) {rs : List (List ℕ)} → AllSized n rs → AllSized n (take k rs)
+sized-front zero h = none
+sized-front (suc k) none = none
+sized-front (suc k) (one e h) = one e (sized-front k h)
+
 pub sized-rest : {n : ℕ} (xs : List (List ℕ)) {ys : List (List ℕ)} → AllSized n (xs ++ ys) → AllSized n ys
 sized-rest [] h = h
 sized-rest (x ∷ xs) (one e h) = sized-rest xs h
+
+sized-back : {n : ℕ} (k : ℕ) {rs : List (List ℕ)} → AllSized n rs → AllSized n (drop k rs)
+sized-back k {rs} h = sized-rest (take k rs) (rw (take-append-drop k rs) h)
 
 -- a record of v values has 6 + 2v characters
 pub length-record : (r : Record) (vs : List ℕ) → length (recordChars r vs) ≡ 6 + 2 * length vs
@@ -50,32 +59,33 @@ record HistoryFormed (c : Config) (h : History) : Type 0 where
   records : (f : ℕ) → AllSized (sizeOf (c .values) f) (heldIn (h .files) f)
 
 module _ (c : Config) where
-  -- what is left of a file after a release is sized as before
-  releaseIn-formed : (h : History) (m : Memory) (f n : ℕ) → HistoryFormed c h → HistoryFormed c (record { memory = m; files = releaseIn (h .files) f n })
-  releaseIn-formed h m f n k =
+  -- what is left of a file after a cut is sized as before
+  cut-formed : (h : History) (m : Memory) (f at n : ℕ) → HistoryFormed c h → HistoryFormed c (changedBy (cuts f at n) m h)
+  unfolding changedBy applied
+  cut-formed h m f at n k =
       record {
-        files = length-release (h .files) f n ∙ k .files;
+        files = length-cut (h .files) f at n ∙ k .files;
         records =
             λ g.
-            sized-rest (cond (eqb f g) (take n (heldIn (h .files) f)) []) (rw (held-release (h .files) f g n) at (k .records g));
+            rw (held-cut (h .files) f g at n)
+            (by-cond (AllSized (sizeOf (c .values) g)) (eqb f g)
+            (λ b. let s = rw (← eqb-true f g b) at (k .records g) in rw (← eqb-true f g b) (sized-append (sized-front at s) (sized-back (at + n) s)))
+            (λ b. k .records g));
       }
 
-  releaseFor-formed : (m : Memory) (h : History) (p : Master) (w : Memory) → HistoryFormed c h → HistoryFormed c (record { memory = w; files = releaseFor m (h .files) p })
-  unfolding releaseFor
-  releaseFor-formed Nothing h p w k = record { files = k .files; records = k .records }
-  releaseFor-formed (Remembered t) h p w k =
-      by-cond (λ fs. HistoryFormed c (record { memory = w; files = fs })) (isOf (t .master) p)
-      (λ e. releaseIn-formed h w (t .file .0) (t .quantity) k)
-      (λ e. record { files = k .files; records = k .records })
+  stays-formed : (h : History) (m : Memory) → HistoryFormed c h → HistoryFormed c (changedBy stays m h)
+  unfolding changedBy applied
+  stays-formed h m k = record { files = k .files; records = k .records }
 
-  told-formed : (h : History) (q : Request) → HistoryFormed c h
-      → HistoryFormed c (toldFrom (c .values) (releaseFor (h .memory) (h .files) (masterOf (q .address))) q .history)
+  freed-formed : (w : Memory) (h : History) (p : Master) (m : Memory) → HistoryFormed c h → HistoryFormed c (changedBy (freedFor w p) m h)
+  unfolding freedFor
+  freed-formed Nothing h p m k = stays-formed h m k
+  freed-formed (Remembered t) h p m k =
+      by-cond (λ ch. HistoryFormed c (changedBy ch m h)) (isOf (t .master) p) (λ e. cut-formed h m (t .file .0) 0 (t .quantity) k) (λ e. stays-formed h m k)
+
+  told-formed : (h : History) (q : Request) → HistoryFormed c h → HistoryFormed c (toldAfter h (newTold c h q))
   unfolding toldFrom
-  told-formed h q k = releaseFor-formed (h .memory) h (masterOf (q .address)) _ k
-
-  forgotten-formed : (h : History) → HistoryFormed c h → HistoryFormed c (forgotten h)
-  unfolding forgotten
-  forgotten-formed h k = record { files = k .files; records = k .records }
+  told-formed h q k = freed-formed (h .memory) h (masterOf (q .address)) _ k
 
   -- a record that is kept has its file's size
   kept-sized : (h : History) (f : ℕ) (r : Record) (vs : List ℕ) → storedAs (c .files) (c .values) (h .files) f vs ≡ Kept → length (recordChars r vs) ≡ sizeOf (c .values) f
@@ -89,7 +99,8 @@ module _ (c : Config) where
       omega (arith, k .files)
 
   kept-formed : (h : History) (f : ℕ) (r : Record) (vs : List ℕ) → storedAs (c .files) (c .values) (h .files) f vs ≡ Kept → HistoryFormed c h
-      → HistoryFormed c (record { memory = h .memory; files = storeIn (h .files) f (recordChars r vs) })
+      → HistoryFormed c (changedBy (adds f (recordChars r vs)) (h .memory) h)
+  unfolding changedBy applied
   kept-formed h f r vs e k =
       record {
         files = length-store (h .files) f (recordChars r vs) ∙ k .files;
@@ -124,7 +135,7 @@ forming c =
 forming-lasts : (c : Config) → Lasts c (forming c)
 forming-lasts c =
     record {
-      heard = λ room s g. tt;
+      heard = λ s g. tt;
       set-time = λ k q h. tt;
       clock-after = λ k ms h. tt;
       free = tt;
@@ -135,7 +146,7 @@ forming-lasts c =
       waits-after = λ w ms k. tt;
       lengths = λ a b s h. record { words = s .words ∙ h .words; values = s .values ∙ h .values; fixed = s .fixed ∙ h .fixed };
       told = λ h q g e k. told-formed c h q k;
-      forgotten = forgotten-formed c;
+      forgotten = λ h k. stays-formed c h _ k;
       kept = kept-formed c;
     }
 

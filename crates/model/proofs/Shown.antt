@@ -1,5 +1,5 @@
 -- What a reply shows of history on the line: the records that it carries are read back, and no refusal shows any. Assumes nothing.
-use Prim.Native.Nat.{ℕ, zero, suc, _+_, _-_, _%_, _≤_, _<_}
+use Prim.Native.Nat.{ℕ, _+_, _-_, _%_, _≤_, _<_}
 use mathlib.Core.Path.{_≡_, refl, sym, ap, ap₂, _∙_}
 use mathlib.Core.List.{List, _∷_, _++_, append-assoc}
 use mathlib.Core.Bool.{Bool, true, false, cond, _&&_, and-false}
@@ -14,13 +14,16 @@ use Rattle.checkword.specs.Check.{checkOf}
 use Rattle.model.specs.Frame.{Request, masterOf, heardOf, requestIn, withCheck, headChars, replyChars}
 use Rattle.model.specs.Outcome.{replyFunction}
 use Rattle.model.specs.Config.{Config, sizeOf}
-use Rattle.model.specs.State.{History, Inner}
+use Rattle.model.specs.Scan.{tells}
+use Rattle.model.specs.State.{Inner}
+use Rattle.model.specs.Change.{Change}
 use Rattle.model.specs.History.{acknowledges, fileOf, flat, historyChars}
-use Rattle.model.specs.Step.{Event, stretch, elapsed, setWord, setValue, pulses, store, Step, Said, said, sentAs, finished, historyMade, initialises}
+use Rattle.model.specs.Event.{Stretch, Event, stretch, elapsed, local}
+use Rattle.model.specs.Step.{scanned, Said, said, sentAs, Stepped, finished, telling}
 use Rattle.model.specs.Port.{sentChars}
 use Rattle.model.specs.Run.{Entry}
 use Rattle.model.specs.Formed.{AllSized, none, one}
-use Rattle.model.specs.Line.{chunks, dataOf, carried, told, forgot, other, shownFor, shownIn, shownBy}
+use Rattle.model.specs.Line.{chunks, dataOf, carried, told, forgot, other, initialises, shownFor, shownIn, shownBy}
 use Rattle.model.specs.Demand3.{Acknowledging}
 use Rattle.model.specs.declared.Outcome.the-variants.{Done}
 use Rattle.model.specs.declared.Reply.{Reply}
@@ -30,15 +33,11 @@ use Rattle.model.specs.declared.Master.{Master}
 use Rattle.model.specs.declared.Heard.{Heard}
 use Rattle.model.specs.declared.Heard.the-variants.{Broken, Wrong, Whole}
 use Rattle.model.specs.declared.Mark.{Mark}
-use Rattle.model.specs.declared.Core.{Core}
+use Rattle.model.specs.declared.Memory.{Memory}
 use Rattle.model.proofs.Conditions.{and-left}
+use Rattle.model.proofs.Shape.{sized-front}
 
 -- ---- records laid one behind the other are read back
-
-sized-front : {n : ℕ} (k : ℕ) {rs : List (List ℕ)} → AllSized n rs → AllSized n (take k rs)
-sized-front zero h = none
-sized-front (suc k) none = none
-sized-front (suc k) (one e h) = one e (sized-front k h)
 
 chunks-flat : (n : ℕ) {rs : List (List ℕ)} (t : List ℕ) → AllSized n rs → chunks (length rs) n (flat rs ++ t) ≡ rs
 unfolding chunks flat
@@ -90,35 +89,35 @@ module _ (c : Config) (q : Request) where
   unfolding initialises
   initialises-function a = eqb-true (q .function) 0x20 (and-left (eqb (q .function) 0x20) _ a)
 
-  pub shown-forgot : (mark : Mark) (k : Core) (p : Step) (h : History) → p .outcome ≡ Done → initialises q ≡ true
-      → shownFor c q (sentChars mark (finished k q p h .sent)) ≡ forgot
+  pub shown-forgot : (i : Inner) (mark : Mark) (m : Stepped) → m .step .says .outcome ≡ Done → initialises q ≡ true
+      → shownFor c q (sentChars mark (finished i q m .sent)) ≡ forgot
   unfolding shownFor finished replyFunction sentAs sentChars replyChars headChars withCheck word
-  shown-forgot mark k p h o a = let f = initialises-function a in simp (o, a, f)
+  shown-forgot i mark m o a = let f = initialises-function a in simp (o, a, f)
 
   -- a history reply shows its master, its file and its records
-  pub shown-told : (i : Inner) (mark : Mark) (n : ℕ) (b : Bool) (rs : List (List ℕ)) (h : History)
+  pub shown-told : (i : Inner) (mark : Mark) (n : ℕ) (b : Bool) (rs : List (List ℕ)) (w : Memory) (ch : Change)
       → q .function ≡ 0x04 → n < 128 → n ≤ length rs → AllSized (sizeOf (c .values) (fileOf q)) rs
-      → shownFor c q (sentChars mark (historyMade i q (record { outcome = Done; chars = historyChars n b rs; history = h }) .sent))
+      → shownFor c q (sentChars mark (finished i q (telling i (record { says = tells (historyChars n b rs); memory = w; change = ch })) .sent))
       ≡ told (masterOf (q .address)) (fileOf q) (acknowledges q) (historyChars n b rs) (take n rs)
-  unfolding shownFor historyMade finished replyFunction sentAs sentChars replyChars headChars withCheck word carried historyChars
-  shown-told i mark n b rs h a few most sized =
+  unfolding shownFor telling scanned finished replyFunction sentAs sentChars replyChars headChars withCheck word carried historyChars
+  shown-told i mark n b rs w ch a few most sized =
       simp a
       (ap₂ (told (masterOf (q .address)) (fileOf q) (acknowledges q)) (data-back _ _) (records-back (sizeOf (c .values) (fileOf q)) n b rs _ few most sized))
 
 -- ---- and back: an entry that shows an acknowledging request
 
 module _ (c : Config) (x : Entry) (m : Master) (f : ℕ) (zs : List ℕ) (ps : List (List ℕ)) where
-  asked-for : (room : ℕ) (s : List ℕ) (h : Heard) → x .event ≡ stretch room s → heardOf s ≡ h
-      → shownIn c s h (x .result .reply) ≡ told m f true zs ps → Acknowledging x m
+  asked-for : (s : Stretch) (h : Heard) → x .event ≡ stretch s → heardOf (s .chars) ≡ h
+      → shownIn c (s .chars) h (x .result .reply) ≡ told m f true zs ps → Acknowledging x m
   unfolding shownIn shownFor requestIn
-  asked-for room s Broken e k d = let z : _≡_ {A = ℕ} 0 1 = cc in absurd (omega arith)
-  asked-for room s Wrong e k d = let z : _≡_ {A = ℕ} 0 1 = cc in absurd (omega arith)
-  asked-for room s (Whole h) e k d = go (eqb (getD (x .result .reply) 2 0) 0x04) (eqb (h .function) 0x04) (eqb (getD (x .result .reply) 2 0) 0x20 && initialises (requestIn h s)) refl refl d
+  asked-for s Broken e k d = let z : _≡_ {A = ℕ} 0 1 = cc in absurd (omega arith)
+  asked-for s Wrong e k d = let z : _≡_ {A = ℕ} 0 1 = cc in absurd (omega arith)
+  asked-for s (Whole h) e k d = go (eqb (getD (x .result .reply) 2 0) 0x04) (eqb (h .function) 0x04) (eqb (getD (x .result .reply) 2 0) 0x20 && initialises (requestIn h (s .chars))) refl refl d
     where
       go : (a b : Bool) (o : Bool) → eqb (getD (x .result .reply) 2 0) 0x04 ≡ a → eqb (h .function) 0x04 ≡ b
-          → cond (a && b) (told (masterOf (h .address)) (fileOf (requestIn h s)) (acknowledges (requestIn h s)) (dataOf (x .result .reply)) (carried c (fileOf (requestIn h s)) (x .result .reply))) (cond o forgot other) ≡ told m f true zs ps
+          → cond (a && b) (told (masterOf (h .address)) (fileOf (requestIn h (s .chars))) (acknowledges (requestIn h (s .chars))) (dataOf (x .result .reply)) (carried c (fileOf (requestIn h (s .chars))) (x .result .reply))) (cond o forgot other) ≡ told m f true zs ps
           → Acknowledging x m
-      go true true o u v d = record { room = room; chars = s; head = h; came = e; heard = k; function = eqb-true _ _ v; bit = (cc); master = (cc); answered = eqb-true _ _ u }
+      go true true o u v d = record { sent = s; head = h; came = e; heard = k; function = eqb-true _ _ v; bit = (cc); master = (cc); answered = eqb-true _ _ u }
       go true false true u v d = let z : _≡_ {A = ℕ} 0 1 = cc in absurd (omega arith)
       go true false false u v d = let z : _≡_ {A = ℕ} 0 1 = cc in absurd (omega arith)
       go false b true u v d = let z : _≡_ {A = ℕ} 0 1 = cc in absurd (omega arith)
@@ -126,9 +125,6 @@ module _ (c : Config) (x : Entry) (m : Master) (f : ℕ) (zs : List ℕ) (ps : L
 
   pub asked : (e : Event) → x .event ≡ e → shownBy c e (x .result .reply) ≡ told m f true zs ps → Acknowledging x m
   unfolding shownBy
-  asked (stretch room s) e d = asked-for room s (heardOf s) e refl d
+  asked (stretch s) e d = asked-for s (heardOf (s .chars)) e refl d
   asked (elapsed ms) e d = let z : _≡_ {A = ℕ} 0 1 = cc in absurd (omega arith)
-  asked (setWord n w) e d = let z : _≡_ {A = ℕ} 0 1 = cc in absurd (omega arith)
-  asked (setValue n v) e d = let z : _≡_ {A = ℕ} 0 1 = cc in absurd (omega arith)
-  asked (pulses n p) e d = let z : _≡_ {A = ℕ} 0 1 = cc in absurd (omega arith)
-  asked (store g v vs) e d = let z : _≡_ {A = ℕ} 0 1 = cc in absurd (omega arith)
+  asked (local l) e d = let z : _≡_ {A = ℕ} 0 1 = cc in absurd (omega arith)

@@ -9,8 +9,9 @@ use Rattle.model.specs.Outcome.{numberOf, carriedOut}
 use Rattle.model.specs.Config.{Config}
 use Rattle.model.specs.State.{Inner, State}
 use Rattle.model.specs.Fits.{fits}
-use Rattle.model.specs.Step.{Event, stretch, elapsed, setWord, setValue, pulses, store, makeOf}
-use Rattle.model.specs.Run.{short, Result, turnedAway, shows, moves, resultOf, nextOf}
+use Rattle.model.specs.Event.{Event, stretch, elapsed, local}
+use Rattle.model.specs.Step.{Made, makeOf}
+use Rattle.model.specs.Run.{short, Result, turnedAway, shows, moves, decided, resultOf, nextOf}
 use Rattle.model.specs.Refusal.{arrives, succeeded}
 use Rattle.model.specs.declared.Outcome.{Outcome}
 use Rattle.model.specs.declared.Outcome.the-variants.{NotConfigured, BufferShort}
@@ -21,22 +22,35 @@ use Rattle.model.proofs.LocalRefusals.{local-meets}
 
 -- ---- the three ways of an event
 
+module _ {A : Type 0} (c : Config) (s : State) (e : Event) (away : Outcome → A) (made : Made → A) where
+  pub decided-short : short e ≡ true → decided c s e away made ≡ away BufferShort
+  unfolding decided
+  decided-short a = rw a
+
+  pub decided-unfit : short e ≡ false → fits c s ≡ false → decided c s e away made ≡ away NotConfigured
+  unfolding decided
+  decided-unfit a b = rw (a, b)
+
+  pub decided-works : short e ≡ false → fits c s ≡ true → decided c s e away made ≡ made (makeOf c (s .inner) e)
+  unfolding decided
+  decided-works a b = rw (a, b)
+
 module _ (c : Config) (s : State) (e : Event) where
   -- a short buffer: 18
   pub short-away : short e ≡ true → (resultOf c s e ≡ turnedAway BufferShort) × (nextOf c s e ≡ s)
   unfolding resultOf nextOf
-  short-away a = (rw a, rw a)
+  short-away a = (decided-short c s e _ _ a, decided-short c s e _ _ a)
 
   -- no valid configuration, or no state that a unit could have left: 17
   pub unfit-away : short e ≡ false → fits c s ≡ false → (resultOf c s e ≡ turnedAway NotConfigured) × (nextOf c s e ≡ s)
   unfolding resultOf nextOf
-  unfit-away a b = (rw (a, b), rw (a, b))
+  unfit-away a b = (decided-unfit c s e _ _ a b, decided-unfit c s e _ _ a b)
 
   -- else the unit works
   pub works : short e ≡ false → fits c s ≡ true
       → (resultOf c s e ≡ shows (s .port) (makeOf c (s .inner) e)) × (nextOf c s e ≡ moves (s .port) e (makeOf c (s .inner) e))
   unfolding resultOf nextOf
-  works a b = (rw (a, b), rw (a, b))
+  works a b = (decided-works c s e _ _ a b, decided-works c s e _ _ a b)
 
 -- ---- a working unit gives neither
 
@@ -53,12 +67,9 @@ module _ (c : Config) (i : Inner) where
 
   refused-row : (e : Event) (o : Outcome) → makeOf c i e .answer ≡ Ended o → carriedOut o ≡ false → numberOf o ≤ 16
   unfolding arrives makeOf
-  refused-row (stretch room t) o a n = judged-meets c i t .refuses o a n .row
+  refused-row (stretch t) o a n = judged-meets c i (t .chars) .refuses o a n .row
   refused-row (elapsed ms) o a n = local-row (elapsed ms) o refl a n
-  refused-row (setWord k w) o a n = local-row (setWord k w) o refl a n
-  refused-row (setValue k v) o a n = local-row (setValue k v) o refl a n
-  refused-row (pulses k p) o a n = local-row (pulses k p) o refl a n
-  refused-row (store f x vs) o a n = local-row (store f x vs) o refl a n
+  refused-row (local e) o a n = local-row (local e) o refl a n
 
   pub made-row : (e : Event) (o : Outcome) → makeOf c i e .answer ≡ Ended o → numberOf o ≤ 16
   made-row e o a = by-bool (carriedOut o) (carried-row o) (refused-row e o a)

@@ -1,4 +1,5 @@
 -- A unit that fits goes on fitting: a fresh one of a valid configuration does, and each event keeps it so. Assumes nothing.
+use Prim.Native.Nat.{ℕ}
 use mathlib.Core.Path.{_≡_, refl}
 use mathlib.Core.List.{List, [], _∷_}
 use mathlib.Core.Bool.{true}
@@ -11,10 +12,14 @@ use Rattle.model.specs.State.{Areas, State, freshCore, freshAreas, fresh
 use Rattle.model.specs.Clock.{clockFits}
 use Rattle.model.specs.History.{recordChars}
 use Rattle.model.specs.Fits.{masterFits, holdFits, writeFits, coreFits, memoryFits, fileFits, historyFits, areasFit, portFits, fits}
-use Rattle.model.specs.Step.{Event, stretch, elapsed, setWord, setValue, pulses, store, Made, forgotten, makeOf}
-use Rattle.model.specs.Port.{silentAfter, portAfter}
+use Rattle.model.specs.Event.{Event, stretch, elapsed, local}
+use Rattle.model.specs.Step.{makeOf}
+use Rattle.model.specs.Port.{silentAfter, portHeard, portAfter}
 use Rattle.model.specs.Run.{moves, nextOf, after}
 use Rattle.model.specs.Formed.{Given, AllGiven}
+use Rattle.model.specs.declared.Outcome.{Outcome}
+use Rattle.model.specs.declared.Answer.{Answer}
+use Rattle.model.specs.declared.Answer.the-variants.{Ended, Storing}
 use Rattle.model.specs.declared.Core.{Core}
 use Rattle.model.specs.declared.Port.{Port}
 use Rattle.model.proofs.Conditions.{and-left, and-right, and-both}
@@ -26,15 +31,17 @@ use Rattle.model.proofs.Runs.{by-next, by-run}
 
 -- ---- the port
 
-pub port-fits : (p : Port) (e : Event) (m : Made) → portFits p ≡ true → portFits (portAfter p e m) ≡ true
+heard-port : (p : Port) (s : List ℕ) (o : Outcome) → portFits p ≡ true → portFits (portHeard p s o) ≡ true
+unfolding portFits portHeard
+heard-port p [] o h = h
+heard-port p (x ∷ s) o h = refl
+
+pub port-fits : (p : Port) (e : Event) (a : Answer) → portFits p ≡ true → portFits (portAfter p e a) ≡ true
 unfolding portFits portAfter silentAfter
-port-fits p (stretch room []) m h = h
-port-fits p (stretch room (x ∷ s)) m h = refl
-port-fits p (elapsed ms) m h = omega (arith, le-leb, leb-true)
-port-fits p (setWord n w) m h = h
-port-fits p (setValue n v) m h = h
-port-fits p (pulses n k) m h = h
-port-fits p (store f e vs) m h = h
+port-fits p (stretch s) (Ended o) h = heard-port p (s .chars) o h
+port-fits p (stretch s) (Storing r) h = h
+port-fits p (elapsed ms) a h = omega (arith, le-leb, leb-true)
+port-fits p (local l) a h = h
 
 -- ---- fits, part by part
 
@@ -58,7 +65,7 @@ fitting-lasts : (c : Config) → Lasts c (fitting c)
 unfolding holdFits writeFits
 fitting-lasts c =
     record {
-      heard = λ room s g. heard-fits s g;
+      heard = λ s g. heard-fits (s .chars) g;
       set-time = setTime-fits;
       clock-after = λ k ms h. clockAfter-fits k ms;
       free = refl;
@@ -131,7 +138,7 @@ unfolding moves
 moved-fits c s e g f =
     record {
       valid = f .valid;
-      port = port-fits (s .port) e (makeOf c (s .inner) e) (f .port);
+      port = port-fits (s .port) e _ (f .port);
       inner = make-has c (fitting c) (fitting-lasts c) (s .inner) (f .inner) e g;
     }
 

@@ -4,7 +4,7 @@ use mathlib.Core.Path.{_≡_, refl}
 use mathlib.Core.Logic.{_⊎_}
 use mathlib.Core.List.{List, [], _∷_, _++_}
 use mathlib.Core.Bool.{Bool, true, _&&_}
-use lib.ListN.{take, set}
+use lib.ListN.{getD, take, set}
 use lib.Dec.{ltb, lit<, lit≤}
 use borrow.Author.Tests.{ltb-true}
 use native.Mathlib.Omega.{arith}
@@ -16,18 +16,21 @@ use Rattle.checkword.proofs.Bursts.{one-character}
 use Rattle.model.specs.Frame.{unitOf, masterOf, whole, checked, frameIn, heardOf, requestIn, withCheck, frameChars, headChars, replyChars}
 use Rattle.model.specs.Outcome.{damaged, replyFunction, answerNumber}
 use Rattle.model.specs.Config.{Config, has, within, every, noneIn, fileValid, validOf, hasFile, sizeOf}
-use Rattle.model.specs.State.{heldIn, storeIn, releaseIn, freshCore, freshAreas, freshHistory, freshPort, freshOf}
+use Rattle.model.specs.State.{heldIn, storeIn, cutIn, freshCore, freshAreas, freshHistory, freshPort, freshOf}
+use Rattle.model.specs.Change.{applied, addedBy, changedBy}
 use Rattle.model.specs.Scan.{counts}
 use Rattle.model.specs.Control.{isOf, breaks, heldAfter}
 use Rattle.model.specs.Blocks.{dropped, waitsAfter}
 use Rattle.model.specs.Clock.{bcd, clockFits, timeOf, clockAt, clockAfter}
-use Rattle.model.specs.History.{acknowledges, dumps, fileOf, flat, historyChars, releaseFor, mostOf, toldFrom, agrees, againWhen, historyOf, recordChars, storedAs}
+use Rattle.model.specs.History.{acknowledges, dumps, fileOf, flat, historyChars, freedFor, mostOf, toldFrom, agrees, againWhen, tellOf, historyOf, recordChars, storedWhen, storedAs}
 use Rattle.model.specs.Fits.{masterFits, holdFits, writeFits, coreFits, givable, replyFits, memoryFits, fileFits, historyFits, areasFit, portFits, fits}
-use Rattle.model.specs.Step.{Event, stretch, elapsed, store, statusOf, sentAs, answered, quiet, settled, finished, historyMade, served, framed, judged, coreAfter, elapsedMade, storeMade, makeOf}
-use Rattle.model.specs.Port.{portStatus, sentChars, damageMark, markAfter, silentAfter, portAfter}
-use Rattle.model.specs.Run.{short, turnedAway, shows, moves, resultOf, nextOf, Entry, entryOf, afterFrom, traceFrom, after, trace}
+use Rattle.model.specs.Event.{store, Event, elapsed, local}
+use Rattle.model.specs.Bench.{coming, hears}
+use Rattle.model.specs.Step.{scanned, statusOf, sentAs, answered, quiet, settled, finished, telling, stepOf, served, framed, judged, coreAfter, elapsedMade, notedIn, storeMade, localOf, makeOf}
+use Rattle.model.specs.Port.{portStatus, sentChars, markAfter, silentAfter, portHeard, portAfter}
+use Rattle.model.specs.Run.{short, turnedAway, shows, moves, decided, resultOf, nextOf, Entry, entryOf, afterFrom, traceFrom, after, trace}
 use Rattle.model.specs.Formed.{AllGiven}
-use Rattle.model.specs.Line.{chunks, carried, shownFor, shownIn, shownBy, shown, latestAfter, releasedBy, latestFrom, releasedFrom, wasKept, storedBy, storedIn, latestIn, releasedIn}
+use Rattle.model.specs.Line.{chunks, carried, shownFor, shownIn, shownBy, shown, latestAfter, releasedBy, latestFrom, releasedFrom, wasKept, storedLocally, storedBy, storedIn, latestIn, releasedIn}
 use Rattle.model.specs.Damage.{Good, Damaged, cut, changed}
 use Rattle.model.specs.Demand3.{heldBy, Unseen, Acknowledged}
 use Rattle.model.specs.declared.Outcome.the-variants.{NotWhole, CheckWrong}
@@ -54,14 +57,14 @@ again = 0xD2 ∷ 0x0C ∷ 0x04 ∷ 0x00 ∷ 0x00 ∷ 0x00 ∷ 0x03 ∷ 0x43 ∷ 
 
 -- two records two seconds apart, and master 1 asks
 abbrev pub before-cut : List Event
-before-cut = store (record { 0 = 0 }) 7 (0x0C0B ∷ []) ∷ elapsed 2000 ∷ store (record { 0 = 0 }) 7 (0x1615 ∷ []) ∷ stretch 520 one ∷ []
+before-cut = local (store (record { 0 = 0 }) 7 (0x0C0B ∷ [])) ∷ elapsed 2000 ∷ local (store (record { 0 = 0 }) 7 (0x1615 ∷ [])) ∷ hears one ∷ []
 
 -- master 1 asks again; master 2 asks, and master 1, to neither of whom the latest reply went; master 1 asks once more
 abbrev pub after-cut : List Event
-after-cut = stretch 520 again ∷ stretch 520 two ∷ stretch 520 one ∷ stretch 520 one ∷ []
+after-cut = hears again ∷ hears two ∷ hears one ∷ hears one ∷ []
 
 abbrev pub torn : Event
-torn = stretch 520 (take 7 one)
+torn = hears (take 7 one)
 
 abbrev pub events : List Event
 events = before-cut ++ (torn ∷ after-cut)
@@ -83,27 +86,29 @@ pub record Worked : Type 0 where
   pub keeps : storedIn (trace unit events) 0 ≡ first ∷ second ∷ []
   pub releases : releasedIn unit (trace unit events) 0 ≡ first ∷ []
   pub holds : heldBy (after unit events) 0 ≡ second ∷ []
-  pub last : releasedBy (latestIn unit (trace unit (take 8 events))) (shown unit (entryOf unit (after unit (take 8 events)) (stretch 520 one))) 0
+  pub last : releasedBy (latestIn unit (trace unit (take 8 events))) (shown unit (entryOf unit (after unit (take 8 events)) (hears one))) 0
       ≡ first ∷ []
   -- one event less, and nothing is released: the latest reply had gone to master 2 when master 1 acknowledged
   pub waits : releasedIn unit (trace unit (take 8 events)) 0 ≡ []
   -- after the cut frame the port status reads 56h, and 54h without it; the repeat carries the first record, and more are held
-  pub repeats : resultOf unit (after unit (take 5 events)) (stretch 520 again) .reply
+  pub repeats : resultOf unit (after unit (take 5 events)) (hears again) .reply
       ≡ 0xD2 ∷ 0x0C ∷ 0x04 ∷ 0x80 ∷ 0x56 ∷ 9 ∷ 0 ∷ 0x81 ∷ first ++ (0xE7 ∷ 0xFD ∷ [])
-  pub undamaged : take 5 (resultOf unit (after unit (take 4 events)) (stretch 520 again) .reply) ≡ 0xD2 ∷ 0x0C ∷ 0x04 ∷ 0x80 ∷ 0x54 ∷ []
+  -- an answered frame clears the mark, so the reply after that reads 54h again
+  pub cleared : getD (resultOf unit (after unit (take 6 events)) (hears two) .reply) 4 0 ≡ 0x54
+  pub undamaged : take 5 (resultOf unit (after unit (take 4 events)) (hears again) .reply) ≡ 0xD2 ∷ 0x0C ∷ 0x04 ∷ 0x80 ∷ 0x54 ∷ []
 
 pub worked : Worked
 unfolding
     unit numbers part word wordAt gather upFrom bitStep bitSteps charStep checkFrom
     unitOf masterOf whole checked frameIn heardOf requestIn withCheck frameChars headChars replyChars
     damaged replyFunction has within every noneIn fileValid validOf hasFile sizeOf
-    heldIn storeIn releaseIn freshCore freshAreas freshHistory freshPort freshOf counts isOf breaks heldAfter dropped waitsAfter
+    heldIn storeIn cutIn applied addedBy changedBy freshCore freshAreas freshHistory freshPort freshOf counts isOf breaks heldAfter dropped waitsAfter
     bcd clockFits timeOf clockAt clockAfter
-    acknowledges dumps fileOf flat historyChars releaseFor mostOf toldFrom agrees againWhen historyOf recordChars storedAs
+    acknowledges dumps fileOf flat historyChars freedFor mostOf toldFrom agrees againWhen tellOf historyOf recordChars storedWhen storedAs
     masterFits holdFits writeFits coreFits givable replyFits memoryFits fileFits historyFits areasFit portFits fits
-    statusOf sentAs answered quiet settled finished historyMade served framed judged coreAfter elapsedMade storeMade makeOf
-    portStatus sentChars damageMark markAfter silentAfter portAfter short turnedAway shows moves resultOf nextOf entryOf afterFrom traceFrom
-    chunks carried shownFor shownIn shownBy shown latestAfter releasedBy latestFrom releasedFrom wasKept storedBy storedIn
+    scanned statusOf sentAs answered quiet settled finished telling stepOf served framed judged coreAfter elapsedMade notedIn storeMade localOf makeOf
+    portStatus sentChars markAfter silentAfter portHeard portAfter short turnedAway shows moves decided resultOf nextOf entryOf afterFrom traceFrom
+    chunks carried shownFor shownIn shownBy shown latestAfter releasedBy latestFrom releasedFrom wasKept storedLocally storedBy storedIn
 worked =
     record {
       valid = refl;
@@ -114,6 +119,7 @@ worked =
       last = refl;
       waits = refl;
       repeats = refl;
+      cleared = refl;
       undamaged = refl;
     }
 
@@ -143,14 +149,14 @@ changed-one = changed good-one (by-small (set one 3 0x60) refl) (one-character o
 given : AllGiven before-cut
 given = (tt, (tt, (tt, (by-small one refl, tt))))
 
-pub cut-unseen : Unseen unit before-cut 520 (take 7 one) after-cut
-cut-unseen = demand-3 unit .damage before-cut 520 cut-one after-cut
+pub cut-unseen : Unseen unit before-cut (coming (take 7 one)) after-cut
+cut-unseen = demand-3 unit .damage before-cut (coming (take 7 one)) cut-one after-cut
 
 pub cut-ends : (resultOf unit (after unit before-cut) torn .answer ≡ Ended NotWhole) ⊎ (resultOf unit (after unit before-cut) torn .answer ≡ Ended CheckWrong)
 cut-ends = cut-unseen .ends .damaged (lit≤ tt) (worked .valid) given
 
 -- the last event released the first record, so master 1 had acknowledged it, to whom the latest reply had carried it
-pub last-acknowledged : Acknowledged unit (latestIn unit (trace unit (take 8 events))) (entryOf unit (after unit (take 8 events)) (stretch 520 one)) 0
+pub last-acknowledged : Acknowledged unit (latestIn unit (trace unit (take 8 events))) (entryOf unit (after unit (take 8 events)) (hears one)) 0
 last-acknowledged =
-    demand-3 unit .events (take 8 events) (stretch 520 one) 0 .release
+    demand-3 unit .events (take 8 events) (hears one) 0 .release
     (λ e. let w = worked .last in let z : _≡_ {A = ℕ} 0 1 = cc in omega arith)

@@ -1,7 +1,10 @@
--- The unit of the bench program (Bench 14): unit 1234 with inputs 30h and 40h, and nothing else.
+-- The unit of the bench program (Bench 14): unit 1234 with inputs 30h and 40h, and nothing else; and a stretch as it comes there.
+use Prim.Native.Nat.{ℕ}
 use mathlib.Core.List.{List, [], _∷_}
 use lib.ListN.{set, replicate}
+use Rattle.model.specs.Limits.{longestReply}
 use Rattle.model.specs.Config.{Config}
+use Rattle.model.specs.Event.{Stretch, Event, stretch}
 
 unfoldable pub benchConfig : Config
 benchConfig =
@@ -14,3 +17,10 @@ benchConfig =
       values = replicate 32 0;
       block = 0;
     }
+
+-- with a buffer that is just long enough
+abbrev pub coming : List ℕ → Stretch
+coming s = record { room = longestReply; chars = s }
+
+abbrev pub hears : List ℕ → Event
+hears s = stretch (coming s)

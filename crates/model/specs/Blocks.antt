@@ -9,10 +9,10 @@ use Rattle.chars.specs.Word.{wordAt}
 use Rattle.model.specs.Limits.{holdTime, mostAsked}
 use Rattle.model.specs.Frame.{Request, masterOf}
 use Rattle.model.specs.Config.{within}
-use Rattle.model.specs.Scan.{Scan, tells, counts}
+use Rattle.model.specs.Scan.{Scan, tells, refusesWith, refuses, counts}
 use Rattle.model.specs.Control.{isOf}
 use Rattle.model.specs.declared.Outcome.{Outcome}
-use Rattle.model.specs.declared.Outcome.the-variants.{Done, WriteTaken, WrongCount, NotValid, NothingWaits, WriteHeld}
+use Rattle.model.specs.declared.Outcome.the-variants.{WriteTaken, WrongCount, NotValid, NothingWaits, WriteHeld}
 use Rattle.model.specs.declared.Master.{Master}
 use Rattle.model.specs.declared.Ordinal.{Ordinal}
 use Rattle.model.specs.declared.Write.{Write}
@@ -42,40 +42,40 @@ reaches fixed block o bias n = known o && leb (bias + n) (length (blockOf fixed 
 
 -- what a WRITE comes to
 pub record Written : Type 0 where
-  pub outcome : Outcome
+  pub says : Scan
   pub write : Pending
 
 -- a WRITE is taken, and waits (Write 5)
 unfoldable pub waitsFor : Master → ℕ → ℕ → Written
-waitsFor m bias o = record { outcome = WriteTaken; write = Waits (record { master = m; bias = bias; ordinal = record { 0 = o }; age = 0 }) }
+waitsFor m bias o = record { says = record { outcome = WriteTaken; chars = [] }; write = Waits (record { master = m; bias = bias; ordinal = record { 0 = o }; age = 0 }) }
 
 -- 20h/30h: another master's write stands; a master's own is replaced (Write 4, 5)
 unfoldable pub writeWhen : Pending → Master → ℕ → ℕ → Written
 writeWhen NoWrite m bias o = waitsFor m bias o
-writeWhen (Waits w) m bias o = cond (isOf (w .master) m) (waitsFor m bias o) (record { outcome = WriteHeld; write = Waits w })
+writeWhen (Waits w) m bias o = cond (isOf (w .master) m) (waitsFor m bias o) (record { says = refuses WriteHeld; write = Waits w })
 
 -- 20h/30h: bias word and ordinal, which EXECUTE judges (Write 3; paper 6.4)
 unfoldable pub writeOf : Pending → Request → Written
 writeOf p q =
-    cond (counts 3 q) (writeWhen p (masterOf (q .address)) (wordAt (q .body) 0) (getD (q .body) 2 0)) (record { outcome = WrongCount; write = p })
+    cond (counts 3 q) (writeWhen p (masterOf (q .address)) (wordAt (q .body) 0) (getD (q .body) 2 0)) (record { says = refuses WrongCount; write = p })
 
 -- what an EXECUTE comes to: both areas after it, and whether bit 7 and bit 3 are to be cleared
 pub record Executed : Type 0 where
-  pub outcome : Outcome
+  pub says : Scan
   pub fixed : List ℕ
   pub block : List ℕ
   pub configures : Bool
   pub clears : Bool
 
 unfoldable pub notExecuted : Outcome → List ℕ → List ℕ → Executed
-notExecuted o fixed block = record { outcome = o; fixed = fixed; block = block; configures = false; clears = false }
+notExecuted o fixed block = record { says = refuses o; fixed = fixed; block = block; configures = false; clears = false }
 
 -- the write's block takes the characters; 03 has the unit configured, 00 clears the error (Write 7, 9; Frames 10)
 unfoldable pub executes : List ℕ → List ℕ → ℕ → ℕ → List ℕ → Executed
 executes fixed block o bias ys =
     cond (reaches fixed block o bias (length ys))
     (record {
-      outcome = Done;
+      says = tells [];
       fixed = cond (eqb o 0x06) fixed (put fixed (baseOf o + bias) ys);
       block = cond (eqb o 0x06) (put block bias ys) block;
       configures = eqb o 0x03;
@@ -97,7 +97,7 @@ executeOf p fixed block q = cond (within 1 mostAsked (length (q .body))) (execut
 
 -- a refused READ sends the request's data back (Write 13)
 unfoldable pub returned : Outcome → Request → Scan
-returned o q = record { outcome = o; chars = part (q .body) 0 mostAsked }
+returned o q = refusesWith (part (q .body) 0 mostAsked) o
 
 -- 28h/30h: bias word, ordinal, quantity (Write 11, 12; paper 7.1)
 unfoldable pub readOf : List ℕ → List ℕ → Request → Scan

@@ -9,7 +9,7 @@ use Rattle.chars.specs.Gather.{gather, upFrom}
 use Rattle.model.specs.Limits.{mostData, mostAsked}
 use Rattle.model.specs.Frame.{Request}
 use Rattle.model.specs.Config.{within, hasCalculation}
-use Rattle.model.specs.Scan.{Scan, tells, refuses, withNoData}
+use Rattle.model.specs.Scan.{Scan, tells, refusesWith, refuses, withNoData}
 use Rattle.model.specs.Inputs.{Changed, unchanged, changes}
 use Rattle.model.specs.declared.Outcome.the-variants.{Unknown, WrongCount, NotValid, TooLong}
 
@@ -37,7 +37,7 @@ unfoldable pub askedOf : List ℕ → List ℕ → List ℕ → Scan
 askedOf table values ns =
     cond (eqb (length (gather (missingOf table) ns)) 0)
     (fitting (gather (pairOf values) ns))
-    (record { outcome = NotValid; chars = gather (missingOf table) ns })
+    (refusesWith (gather (missingOf table) ns) NotValid)
 
 -- function 03 (Scans 18 to 23)
 unfoldable pub calculationsOf : List ℕ → List ℕ → Request → Scan

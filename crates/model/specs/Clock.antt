@@ -6,9 +6,8 @@ use lib.ListN.{getD}
 use lib.Dec.{leb}
 use Rattle.model.specs.Frame.{Request}
 use Rattle.model.specs.Config.{within}
-use Rattle.model.specs.Scan.{Scan, tells, withNoData, counts}
-use Rattle.model.specs.declared.Outcome.{Outcome}
-use Rattle.model.specs.declared.Outcome.the-variants.{Done, WrongCount, NotValid}
+use Rattle.model.specs.Scan.{Scan, tells, refuses, withNoData, counts}
+use Rattle.model.specs.declared.Outcome.the-variants.{WrongCount, NotValid}
 use Rattle.model.specs.declared.Clock.{Clock}
 
 -- a number to 99 as two decimal digits in one character, and back (Write 14; paper 6.5)
@@ -45,15 +44,15 @@ digitsFit s =
 
 -- what Set Time comes to
 pub record Timed : Type 0 where
-  pub outcome : Outcome
+  pub says : Scan
   pub clock : Clock
 
 -- 20h/38h: the clock takes the time sent (Write 14, 15)
 unfoldable pub setTimeOf : Clock → Request → Timed
 setTimeOf k q =
     cond (counts 7 q)
-    (cond (digitsFit (q .body) && clockFits (timeIn (q .body))) (record { outcome = Done; clock = timeIn (q .body) }) (record { outcome = NotValid; clock = k }))
-    (record { outcome = WrongCount; clock = k })
+    (cond (digitsFit (q .body) && clockFits (timeIn (q .body))) (record { says = tells []; clock = timeIn (q .body) }) (record { says = refuses NotValid; clock = k }))
+    (record { says = refuses WrongCount; clock = k })
 
 -- the seven characters of a clock (Write 17; paper 7.2)
 unfoldable pub timeChars : Clock → List ℕ

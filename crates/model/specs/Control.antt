@@ -7,10 +7,9 @@ use lib.Dec.{eqb, leb}
 use Rattle.model.specs.Limits.{holdTime}
 use Rattle.model.specs.Frame.{Request, masterOf}
 use Rattle.model.specs.Config.{has}
-use Rattle.model.specs.Scan.{counts}
+use Rattle.model.specs.Scan.{Scan, tells, refuses, counts}
 use Rattle.model.specs.declared.Outcome.{Outcome}
 use Rattle.model.specs.declared.Outcome.the-variants.{
-  Done,
   Unknown,
   WrongCount,
   NotValid,
@@ -28,13 +27,12 @@ use Rattle.model.specs.declared.Hold.the-variants.{Free, Held, TimedOut}
 
 -- what a control request comes to
 pub record Controlled : Type 0 where
-  pub outcome : Outcome
+  pub says : Scan
   pub action : Action
-  pub chars : List ℕ
   pub hold : Hold
 
 abbrev pub keeps : Outcome → Hold → Controlled
-keeps o h = record { outcome = o; action = Rest; chars = []; hold = h }
+keeps o h = record { says = refuses o; action = Rest; hold = h }
 
 -- the same master
 unfoldable pub isOf : Master → Master → Bool
@@ -44,9 +42,8 @@ isOf m n = eqb (m .0) (n .0)
 unfoldable pub takes : Master → ℕ → Bool → Controlled
 takes m n close =
     record {
-      outcome = Done;
+      says = tells (n ∷ []);
       action = Rest;
-      chars = n ∷ [];
       hold = Held (record { master = m; output = record { 0 = n }; close = close; age = 0 });
     }
 
@@ -62,7 +59,7 @@ operateWhen Free m = keeps NothingWaits Free
 operateWhen (TimedOut p) m = cond (isOf p m) (keeps SelectTimedOut Free) (keeps NothingWaits (TimedOut p))
 operateWhen (Held s) m =
     cond (isOf (s .master) m)
-    (record { outcome = Done; action = Operate (s .output) (s .close); chars = []; hold = Free })
+    (record { says = tells []; action = Operate (s .output) (s .close); hold = Free })
     (keeps SelectHeld (Held s))
 
 -- 10h/21h where the select's own master has not broken it off (Select 7)

@@ -8,7 +8,7 @@ use Rattle.chars.specs.Word.{Characters}
 use Rattle.checkword.specs.Line.{Burst}
 use Rattle.model.specs.Frame.{withCheck}
 use Rattle.model.specs.Sound.{WholeFrame}
-use Rattle.model.specs.Step.{Event, stretch}
+use Rattle.model.specs.Event.{Stretch, Event, stretch}
 use Rattle.model.specs.Run.{Entry}
 use Rattle.model.specs.declared.Frame.{Frame}
 
@@ -51,4 +51,4 @@ pub data AlikeTrace : List Entry → List Entry → Type 0 where
 pub data Spoilt : List Event → List Event → Type 0 where
   clean : Spoilt [] []
   intact : {e : Event} {xs ys : List Event} → Spoilt xs ys → Spoilt (e ∷ xs) (e ∷ ys)
-  spoilt : {room : ℕ} {t : List ℕ} {xs ys : List Event} → Damaged t → Spoilt xs ys → Spoilt (stretch room t ∷ xs) ys
+  spoilt : {t : Stretch} {xs ys : List Event} → Damaged (t .chars) → Spoilt xs ys → Spoilt (stretch t ∷ xs) ys

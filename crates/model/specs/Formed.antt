@@ -6,16 +6,13 @@ use lib.ListN.{length}
 use Rattle.chars.specs.Word.{Characters}
 use Rattle.model.specs.Config.{Config, sizeOf}
 use Rattle.model.specs.State.{State, heldIn}
-use Rattle.model.specs.Step.{Event, stretch, elapsed, setWord, setValue, pulses, store}
+use Rattle.model.specs.Event.{Event, stretch, elapsed, local}
 
 -- a line carries characters; nothing is asked of time and of the local events
 abbrev pub Given : Event → Type 0
-Given (stretch room s) = Characters s
+Given (stretch s) = Characters (s .chars)
 Given (elapsed ms) = Unit {0}
-Given (setWord n w) = Unit {0}
-Given (setValue n v) = Unit {0}
-Given (pulses n p) = Unit {0}
-Given (store f e vs) = Unit {0}
+Given (local l) = Unit {0}
 
 -- each event of a run is given
 abbrev pub AllGiven : List Event → Type 0

@@ -10,7 +10,7 @@ use Rattle.model.specs.Frame.{Request}
 use Rattle.model.specs.Config.{has, twoBits, simples, accumulators, analogs, accumulator}
 use Rattle.model.specs.Scan.{Scan, tells, refuses, withNoData, counts}
 use Rattle.model.specs.declared.Outcome.{Outcome}
-use Rattle.model.specs.declared.Outcome.the-variants.{Done, Unknown, WrongCount, NotValid}
+use Rattle.model.specs.declared.Outcome.the-variants.{Unknown, WrongCount, NotValid}
 
 -- bits 1, 4, 5 and 7 of function 00's command are reserved (Scans 5; paper 3.1.1)
 unfoldable pub unreserved : ℕ → Bool
@@ -35,15 +35,14 @@ inputsOf table words q =
 
 -- what an event that changes one area alone comes to
 pub record Changed : Type 0 where
-  pub outcome : Outcome
-  pub chars : List ℕ
+  pub says : Scan
   pub area : List ℕ
 
 abbrev pub unchanged : Outcome → List ℕ → Changed
-unchanged o area = record { outcome = o; chars = []; area = area }
+unchanged o area = record { says = refuses o; area = area }
 
 abbrev pub changes : List ℕ → List ℕ → Changed
-changes ys area = record { outcome = Done; chars = ys; area = area }
+changes ys area = record { says = tells ys; area = area }
 
 -- a local event sets a status or analog word (Scans 3, 4)
 unfoldable pub setWordOf : List ℕ → List ℕ → ℕ → ℕ → Changed

@@ -5,6 +5,7 @@ pub mod Sound
 pub mod Outcome
 pub mod Config
 pub mod State
+pub mod Change
 pub mod Scan
 pub mod Inputs
 pub mod Tables
@@ -14,6 +15,7 @@ pub mod Blocks
 pub mod Clock
 pub mod History
 pub mod Fits
+pub mod Event
 pub mod Step
 pub mod Port
 pub mod Run

@@ -1,13 +1,14 @@
 -- The port beside the rest: its silence count and its mark, which enters a reply here alone.
 use Prim.Native.Nat.{ℕ, _+_, min}
 use mathlib.Core.List.{List, [], _∷_}
-use mathlib.Core.Bool.{Bool, true, false, cond}
+use mathlib.Core.Bool.{cond}
 use lib.ListN.{length}
-use lib.Dec.{eqb, leb}
+use lib.Dec.{leb}
 use Rattle.model.specs.Limits.{silenceLimit}
 use Rattle.model.specs.Frame.{replyChars}
-use Rattle.model.specs.Outcome.{damaged}
-use Rattle.model.specs.Step.{Event, stretch, elapsed, setWord, setValue, pulses, store, Said, Sent, silent, said, Made}
+use Rattle.model.specs.Outcome.{sendingOf, damaged}
+use Rattle.model.specs.Event.{Event, stretch, elapsed, local}
+use Rattle.model.specs.Step.{Sent, silent, said, answered}
 use Rattle.model.specs.declared.Outcome.{Outcome}
 use Rattle.model.specs.declared.Answer.{Answer}
 use Rattle.model.specs.declared.Answer.the-variants.{Ended, Storing}
@@ -33,26 +34,22 @@ sentChars m (said r) =
     (record { address = r .address; function = r .function; status = r .status; port = portStatus m; count = length (r .chars) })
     (r .chars)
 
--- damage marks the port (Frames 13)
-unfoldable pub damageMark : Mark → Answer → Mark
-damageMark m (Ended o) = cond (damaged o) Damaged m
-damageMark m (Storing s) = m
-
--- an answered frame sets the mark to 00 (Frames 14)
-unfoldable pub markAfter : Mark → Answer → Sent → Mark
-markAfter m o silent = damageMark m o
-markAfter m o (said r) = Fine
+-- an answered frame sets the mark to 00, damage marks the port, and any other outcome leaves the mark (Frames 13, 14)
+unfoldable pub markAfter : Mark → Outcome → Mark
+markAfter m o = cond (answered (sendingOf o)) Fine (cond (damaged o) Damaged m)
 
 -- 60,000 ms with no stretch mark the port, and the count stays there (Frames 13)
 unfoldable pub silentAfter : Port → ℕ → Port
 silentAfter p ms = record { silence = min silenceLimit (p .silence + ms); mark = cond (leb silenceLimit (p .silence + ms)) Silent (p .mark) }
 
 -- an empty stretch changes nothing, any other ends the silence (Frames 15, 16)
-unfoldable pub portAfter : Port → Event → Made → Port
-portAfter p (stretch room []) m = p
-portAfter p (stretch room (x ∷ s)) m = record { silence = 0; mark = markAfter (p .mark) (m .answer) (m .sent) }
-portAfter p (elapsed ms) m = silentAfter p ms
-portAfter p (setWord n w) m = p
-portAfter p (setValue n v) m = p
-portAfter p (pulses n k) m = p
-portAfter p (store f e vs) m = p
+unfoldable pub portHeard : Port → List ℕ → Outcome → Port
+portHeard p [] o = p
+portHeard p (x ∷ s) o = record { silence = 0; mark = markAfter (p .mark) o }
+
+-- the port after an event with this answer; only a local event has one of storing
+unfoldable pub portAfter : Port → Event → Answer → Port
+portAfter p (stretch s) (Ended o) = portHeard p (s .chars) o
+portAfter p (stretch s) (Storing r) = p
+portAfter p (elapsed ms) a = silentAfter p ms
+portAfter p (local l) a = p

@@ -1,16 +1,17 @@
 -- What a refusal may change, by its outcome alone and for every function alike (Outcomes 3, 4).
 use mathlib.Core.Path.{_≡_}
 use Prim.Native.Nat.{ℕ, _≤_}
-use mathlib.Core.List.{List, [], _∷_}
+use mathlib.Core.List.{List, []}
 use mathlib.Core.Bool.{Bool, true, false, cond, _||_}
 use lib.Dec.{eqb, leb}
 use Rattle.model.specs.Frame.{Request, masterOf, frameIn, requestIn}
-use Rattle.model.specs.Outcome.{numberOf, carriedOut, damaged, storedNumber, answerNumber}
+use Rattle.model.specs.Outcome.{numberOf, carriedOut, storedNumber, answerNumber}
 use Rattle.model.specs.Config.{Config, within}
 use Rattle.model.specs.State.{Inner, State}
 use Rattle.model.specs.Blocks.{dropped}
-use Rattle.model.specs.Step.{Event, stretch, elapsed, setWord, setValue, pulses, store, withError, Sent, silent, said, Made}
-use Rattle.model.specs.Port.{portAfter}
+use Rattle.model.specs.Event.{Event, stretch, elapsed, local}
+use Rattle.model.specs.Step.{withError, Sent, silent, said, Made}
+use Rattle.model.specs.Port.{portHeard, portAfter}
 use Rattle.model.specs.Run.{resultOf, nextOf}
 use Rattle.model.specs.declared.Outcome.{Outcome}
 use Rattle.model.specs.declared.Answer.{Answer}
@@ -20,8 +21,6 @@ use Rattle.model.specs.declared.Hold.{Hold}
 use Rattle.model.specs.declared.Hold.the-variants.{Free}
 use Rattle.model.specs.declared.Pending.{Pending}
 use Rattle.model.specs.declared.Core.{Core}
-use Rattle.model.specs.declared.Mark.{Mark}
-use Rattle.model.specs.declared.Mark.the-variants.{Fine, Damaged}
 use Rattle.model.specs.declared.Port.{Port}
 
 -- 6 to 15: a frame for this unit was refused, and is answered
@@ -55,20 +54,11 @@ refusedCore q o k =
 unfoldable pub refusedInner : Request → Outcome → Inner → Inner
 refusedInner q o i = record { core = refusedCore q o (i .core); areas = i .areas; history = i .history }
 
--- damage marks the port, a reply sets the mark to 00 (Frames 13, 14)
-unfoldable pub refusedMark : Outcome → Mark → Mark
-refusedMark o m = cond (declined o) Fine (cond (damaged o) Damaged m)
-
--- an empty stretch changes nothing, any other ends the silence (Frames 15, 16)
-unfoldable pub refusedPort : List ℕ → Outcome → Port → Port
-refusedPort [] o p = p
-refusedPort (x ∷ t) o p = record { silence = 0; mark = refusedMark o (p .mark) }
-
--- all that is kept, after a stretch t that was refused; 17 and 18 change nothing
+-- all that is kept, after a stretch t that was refused: the port too goes by the outcome; 17 and 18 change nothing
 unfoldable pub refusedState : List ℕ → Outcome → State → State
 refusedState t o s =
     cond (leb (numberOf o) 16)
-    (record { inner = refusedInner (requestIn (frameIn t) t) o (s .inner); port = refusedPort t o (s .port) })
+    (record { inner = refusedInner (requestIn (frameIn t) t) o (s .inner); port = portHeard (s .port) t o })
     s
 
 unfoldable pub replies : Sent → Bool
@@ -85,12 +75,9 @@ pub record Refused (q : Request) (o : Outcome) (i : Inner) (m : Made) : Type 0 w
 -- ---- the events that are no stretch
 
 unfoldable pub arrives : Event → Bool
-arrives (stretch room t) = true
+arrives (stretch t) = true
 arrives (elapsed ms) = false
-arrives (setWord n w) = false
-arrives (setValue n v) = false
-arrives (pulses n p) = false
-arrives (store f e vs) = false
+arrives (local l) = false
 
 -- storing has numbers of its own (History 5)
 unfoldable pub succeeded : Answer → Bool
@@ -110,7 +97,7 @@ pub record RefusedLocally (i : Inner) (e : Event) (m : Made) : Type 0 where
   pub inner : m .inner ≡ refusedLocal (m .answer) i
   pub action : m .action ≡ Rest
   pub sent : m .sent ≡ silent
-  pub port : (p : Port) → portAfter p e m ≡ p
+  pub port : (p : Port) → portAfter p e (m .answer) ≡ p
   pub row : answerNumber (m .answer) ≤ 16
 
 -- such an event in the whole: the port stays, nothing is sent or operated

@@ -1,4 +1,4 @@
--- What a request that changes nothing comes to: an outcome, and the characters of its reply's data; and how a function answers with it.
+-- What a request comes to, whatever it changes: an outcome, and the characters of its reply's data; and how a function answers with it.
 use mathlib.Core.Path.{_≡_}
 use Prim.Native.Nat.{ℕ}
 use mathlib.Core.List.{List, [], _∷_}
@@ -19,9 +19,13 @@ pub record Scan : Type 0 where
 abbrev pub tells : List ℕ → Scan
 tells ys = record { outcome = Done; chars = ys }
 
--- a refusal has no data, but where a function says so (Outcomes 2)
+-- every refusal, with the data that it sends back
+abbrev pub refusesWith : List ℕ → Outcome → Scan
+refusesWith ys o = record { outcome = o; chars = ys }
+
+-- none, but where a function says so (Outcomes 2)
 abbrev pub refuses : Outcome → Scan
-refuses o = record { outcome = o; chars = [] }
+refuses o = refusesWith [] o
 
 -- a request whose data count is right
 unfoldable pub counts : ℕ → Request → Bool

@@ -1,8 +1,8 @@
 -- What a unit keeps: core, areas and history, and the port beside them.
-use Prim.Native.Nat.{ℕ}
+use Prim.Native.Nat.{ℕ, _+_}
 use mathlib.Core.List.{List, [], _∷_, _++_}
 use mathlib.Core.Bool.{true, false}
-use lib.ListN.{getD, set, drop, replicate}
+use lib.ListN.{getD, set, take, drop, replicate}
 use Rattle.model.specs.Config.{Config}
 use Rattle.model.specs.declared.Core.{Core}
 use Rattle.model.specs.declared.Hold.the-variants.{Free}
@@ -46,9 +46,9 @@ heldIn fs f = getD fs f []
 unfoldable pub storeIn : Files → ℕ → List ℕ → Files
 storeIn fs f r = set fs f (heldIn fs f ++ (r ∷ []))
 
--- the n oldest leave
-unfoldable pub releaseIn : Files → ℕ → ℕ → Files
-releaseIn fs f n = set fs f (drop n (heldIn fs f))
+-- n records leave, from the place `at` on; the oldest stand at 0
+unfoldable pub cutIn : Files → ℕ → ℕ → ℕ → Files
+cutIn fs f at n = set fs f (take at (heldIn fs f) ++ drop (at + n) (heldIn fs f))
 
 -- a fresh unit: day 1, 00:00:00.000, bit 7, all else empty or 0 (Outcomes 8; Frames 10)
 unfoldable pub freshCore : Core

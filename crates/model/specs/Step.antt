@@ -1,14 +1,15 @@
 -- One event: what a unit that works makes of it. The port is not seen here.
 use Prim.Native.Nat.{ℕ, _+_}
-use mathlib.Core.List.{List, [], _∷_}
+use mathlib.Core.List.{List, []}
 use mathlib.Core.Bool.{Bool, true, false, cond, _&&_}
-use lib.ListN.{length, getD}
 use lib.Dec.{eqb}
 use Rattle.model.specs.Frame.{Request, unitOf, masterOf, broadcastUnit, heardOf, requestIn}
 use Rattle.model.specs.Outcome.{numberOf, sendingOf, replyFunction}
 use Rattle.model.specs.Config.{Config}
-use Rattle.model.specs.State.{Areas, History, Inner, storeIn}
-use Rattle.model.specs.Scan.{Scan, counts}
+use Rattle.model.specs.Event.{Local, setWord, setValue, pulses, store, Event, stretch, elapsed, local}
+use Rattle.model.specs.State.{Areas, Inner}
+use Rattle.model.specs.Change.{Change, stays, addedBy, changedBy}
+use Rattle.model.specs.Scan.{Scan, tells, refuses, counts}
 use Rattle.model.specs.Inputs.{Changed, inputsOf, setWordOf, pulsesOf, resetCountOf}
 use Rattle.model.specs.Tables.{tablesOf}
 use Rattle.model.specs.Calculations.{calculationsOf, setValueOf}
@@ -16,9 +17,6 @@ use Rattle.model.specs.Control.{Controlled, controlOf, breaks, heldAfter
 use Rattle.model.specs.Blocks.{Written, Executed, writeOf, executeOf, readOf, dropped, waitsAfter}
 use Rattle.model.specs.Clock.{Timed, setTimeOf, readTimeOf, clockAfter}
 use Rattle.model.specs.History.{Told, historyOf, recordChars, storedAs}
-use Rattle.model.specs.declared.Input.{Input}
-use Rattle.model.specs.declared.SpecialCalculation.{SpecialCalculation}
-use Rattle.model.specs.declared.File.{File}
 use Rattle.model.specs.declared.Outcome.{Outcome}
 use Rattle.model.specs.declared.Outcome.the-variants.{
   Done,
@@ -46,23 +44,14 @@ use Rattle.model.specs.declared.Hold.{Hold}
 use Rattle.model.specs.declared.Hold.the-variants.{Free}
 use Rattle.model.specs.declared.Pending.{Pending}
 use Rattle.model.specs.declared.Pending.the-variants.{NoWrite}
+use Rattle.model.specs.declared.Memory.{Memory}
 use Rattle.model.specs.declared.Memory.the-variants.{Nothing}
 use Rattle.model.specs.declared.Core.{Core}
 
--- what may happen to a unit: a stretch, with the length of the lent buffer; time; the local events (Covers 3; Outcomes 9; Scans 3)
-pub data Event : Type 0 where
-  stretch : ℕ → List ℕ → Event
-  elapsed : ℕ → Event
-  setWord : Input → ℕ → Event
-  setValue : SpecialCalculation → ℕ → Event
-  pulses : Input → ℕ → Event
-  store : File → ℕ → List ℕ → Event
-
 -- what a function makes of a request that reaches it
 pub record Step : Type 0 where
-  pub outcome : Outcome
+  pub says : Scan
   pub action : Action
-  pub chars : List ℕ
   pub core : Core
   pub areas : Areas
 
@@ -92,52 +81,48 @@ withWords a words = record { words = words; values = a .values; fixed = a .fixed
 abbrev pub withValues : Areas → List ℕ → Areas
 withValues a values = record { words = a .words; values = values; fixed = a .fixed; block = a .block }
 
-unfoldable pub refused : Outcome → Core → Areas → Step
-refused o k a = record { outcome = o; action = Rest; chars = []; core = k; areas = a }
-
 unfoldable pub scanned : Core → Areas → Scan → Step
-scanned k a r = record { outcome = r .outcome; action = Rest; chars = r .chars; core = k; areas = a }
+scanned k a r = record { says = r; action = Rest; core = k; areas = a }
 
 unfoldable pub changed : Core → Areas → Changed → Step
-changed k a r = record { outcome = r .outcome; action = Rest; chars = r .chars; core = k; areas = withWords a (r .area) }
+changed k a r = record { says = r .says; action = Rest; core = k; areas = withWords a (r .area) }
 
 unfoldable pub controlled : Core → Areas → Controlled → Step
-controlled k a r = record { outcome = r .outcome; action = r .action; chars = r .chars; core = withHold k (r .hold); areas = a }
+controlled k a r = record { says = r .says; action = r .action; core = withHold k (r .hold); areas = a }
 
 unfoldable pub timed : Core → Areas → Timed → Step
-timed k a r = record { outcome = r .outcome; action = Rest; chars = []; core = withClock k (r .clock); areas = a }
+timed k a r = record { says = r .says; action = Rest; core = withClock k (r .clock); areas = a }
 
 unfoldable pub written : Core → Areas → Written → Step
-written k a r = record { outcome = r .outcome; action = Rest; chars = []; core = withWrite k (r .write); areas = a }
+written k a r = record { says = r .says; action = Rest; core = withWrite k (r .write); areas = a }
 
 -- an accepted EXECUTE clears bit 7 or bit 3 (Frames 10)
 unfoldable pub executed : Core → Areas → Executed → Step
 executed k a r =
     record {
-      outcome = r .outcome;
+      says = r .says;
       action = Rest;
-      chars = [];
       core = withError (withConfigure k (cond (r .configures) false (k .configure))) (cond (r .clears) false (k .error));
       areas = record { words = a .words; values = a .values; fixed = r .fixed; block = r .block };
     }
 
 -- ---- the functions that see no history (Covers 1)
 
--- function 20h but for 20h/00 (paper 6.1)
+-- function 20h but for 20h/00 (paper 6.3 to 6.5)
 unfoldable pub internalOf : Config → Core → Areas → Request → Step
 internalOf c k a q =
     cond (eqb (q .command) 0x11) (changed k a (resetCountOf (c .inputs) (a .words) q))
     (cond (eqb (q .command) 0x30) (written k a (writeOf (k .write) q))
     (cond (eqb (q .command) 0x31) (executed k a (executeOf (k .write) (a .fixed) (a .block) q))
     (cond (eqb (q .command) 0x38) (timed k a (setTimeOf (k .clock) q))
-    (refused Unknown k a))))
+    (scanned k a (refuses Unknown)))))
 
 -- function 28h (paper 7)
 unfoldable pub returnOf : Core → Areas → Request → Step
 returnOf k a q =
     cond (eqb (q .command) 0x30) (scanned k a (readOf (a .fixed) (a .block) q))
     (cond (eqb (q .command) 0x31) (scanned k a (readTimeOf (k .clock) q))
-    (refused Unknown k a))
+    (scanned k a (refuses Unknown)))
 
 -- by function code; a function with bit 6 or 7 set is none of them (row 6; paper 1.1.3)
 unfoldable pub otherOf : Config → Core → Areas → Request → Step
@@ -146,9 +131,8 @@ otherOf c k a q =
     (cond (eqb (q .function) 0x03) (scanned k a (calculationsOf (c .calculations) (a .values) q))
     (cond (eqb (q .function) 0x0A) (scanned k a (tablesOf (c .inputs) (a .fixed) (a .words) q))
     (cond (eqb (q .function) 0x10) (controlled k a (controlOf (c .outputs) (k .hold) q))
-    (cond (eqb (q .function) 0x20) (internalOf c k a q)
     (cond (eqb (q .function) 0x28) (returnOf k a q)
-    (refused Unknown k a))))))
+    (scanned k a (refuses Unknown))))))
 
 -- ---- a frame for this unit
 
@@ -180,15 +164,17 @@ answered Nop = true
 answered Rst = true
 answered Unanswered = false
 
--- what the unit makes of an event
+-- what the unit makes of an event: the answer, the output action, what is sent, all that is kept then, and what it changed in the files
 pub record Made : Type 0 where
   pub answer : Answer
   pub action : Action
   pub sent : Sent
   pub inner : Inner
+  pub change : Change
 
+-- nothing is sent, operated or changed in the files
 unfoldable pub quiet : Answer → Inner → Made
-quiet o i = record { answer = o; action = Rest; sent = silent; inner = i }
+quiet o i = record { answer = o; action = Rest; sent = silent; inner = i; change = stays }
 
 -- what every frame for this unit does: a write of its master is dropped but by a WRITE taken; a reply clears bit 2 (Write 6; Frames 10)
 unfoldable pub settled : Request → Outcome → Core → Core
@@ -196,54 +182,66 @@ settled q o k =
     withBroadcast (withWrite k (cond (eqb (numberOf o) 5) (k .write) (dropped (k .write) (masterOf (q .address)))))
     (cond (answered (sendingOf o)) false (k .broadcast))
 
--- a frame for this unit, with the core as it found it, what its function made, and the history after it (Frames 5, 9, 10)
-unfoldable pub finished : Core → Request → Step → History → Made
-finished found q p h =
+-- what a frame for this unit comes to, before it is settled and sent: its step, the reply remembered then, and what it changes in the files
+pub record Stepped : Type 0 where
+  pub step : Step
+  pub memory : Memory
+  pub change : Change
+
+-- a frame that found all that is kept as i (Frames 5, 9, 10)
+unfoldable pub finished : Inner → Request → Stepped → Made
+finished i q m =
     record {
-      answer = Ended (p .outcome);
-      action = p .action;
-      sent = sentAs (sendingOf (p .outcome))
-          (record { address = q .address; function = replyFunction (q .function) (p .outcome); status = statusOf found; chars = p .chars });
-      inner = record { core = settled q (p .outcome) (p .core); areas = p .areas; history = h };
+      answer = Ended (m .step .says .outcome);
+      action = m .step .action;
+      sent = sentAs (sendingOf (m .step .says .outcome))
+          (record { address = q .address; function = replyFunction (q .function) (m .step .says .outcome); status = statusOf (i .core); chars = m .step .says .chars });
+      inner = record { core = settled q (m .step .says .outcome) (m .step .core); areas = m .step .areas; history = changedBy (m .change) (m .memory) (i .history) };
+      change = m .change;
     }
 
 -- a function that sees no history
-unfoldable pub beside : Inner → Request → Step → Made
-beside i q p = finished (i .core) q p (i .history)
+unfoldable pub alone : Inner → Step → Stepped
+alone i p = record { step = p; memory = i .history .memory; change = stays }
 
 -- a frame of the select's own master that is no operate: the select is cancelled, with nothing else done (Select 5)
 unfoldable pub brokenOff : Core → Areas → Step
-brokenOff k a = refused BrokenOff (withHold k Free) a
+brokenOff k a = scanned (withHold k Free) a (refuses BrokenOff)
 
 -- function 04 sees the history, and neither core nor areas
-unfoldable pub historyMade : Inner → Request → Told → Made
-historyMade i q t =
-    finished (i .core) q (record { outcome = t .outcome; action = Rest; chars = t .chars; core = i .core; areas = i .areas }) (t .history)
-
--- 20h/00 (Write 19, 20; paper 6.2)
-unfoldable pub initialises : Request → Bool
-initialises q = eqb (q .function) 0x20 && eqb (q .command) 0x00
+unfoldable pub telling : Inner → Told → Stepped
+telling i t =
+    record {
+      step = scanned (i .core) (i .areas) (t .says);
+      memory = t .memory;
+      change = t .change;
+    }
 
 -- the select, its mark and the write are forgotten, and bit 7 is set
 unfoldable pub restarted : Core → Core
 restarted k = withConfigure (withWrite (withHold k Free) NoWrite) true
 
-unfoldable pub forgotten : History → History
-forgotten h = record { memory = Nothing; files = h .files }
-
-unfoldable pub initialised : Inner → Request → Made
-initialised i q =
+-- 20h/00: with the latest history reply (Write 19, 20; paper 6.2)
+unfoldable pub initialStep : Inner → Request → Stepped
+initialStep i q =
     cond (counts 0 q)
-    (finished (i .core) q (refused Done (restarted (i .core)) (i .areas)) (forgotten (i .history)))
-    (beside i q (refused WrongCount (i .core) (i .areas)))
+    (record { step = scanned (restarted (i .core)) (i .areas) (tells []); memory = Nothing; change = stays })
+    (alone i (scanned (i .core) (i .areas) (refuses WrongCount)))
+
+-- function 20h (paper 6.1)
+unfoldable pub internalStep : Config → Inner → Request → Stepped
+internalStep c i q = cond (eqb (q .command) 0x00) (initialStep i q) (alone i (internalOf c (i .core) (i .areas) q))
 
 -- 12 comes before 6 and 7, and these before what each function judges (Outcomes 1)
+unfoldable pub stepOf : Config → Inner → Request → Stepped
+stepOf c i q =
+    cond (breaks (i .core .hold) q) (alone i (brokenOff (i .core) (i .areas)))
+    (cond (eqb (q .function) 0x04) (telling i (historyOf (c .files) (c .values) (i .history) q))
+    (cond (eqb (q .function) 0x20) (internalStep c i q)
+    (alone i (otherOf c (i .core) (i .areas) q))))
+
 unfoldable pub served : Config → Inner → Request → Made
-served c i q =
-    cond (breaks (i .core .hold) q) (beside i q (brokenOff (i .core) (i .areas)))
-    (cond (eqb (q .function) 0x04) (historyMade i q (historyOf (c .files) (c .values) (i .history) q))
-    (cond (initialises q) (initialised i q)
-    (beside i q (otherOf c (i .core) (i .areas) q))))
+served c i q = finished i q (stepOf c i q)
 
 -- ---- a broadcast
 
@@ -252,12 +250,12 @@ unfoldable pub broadcastOf : Config → Core → Areas → Request → Step
 broadcastOf c k a q =
     cond (eqb (q .function) 0x20 && eqb (q .command) 0x11) (changed k a (resetCountOf (c .inputs) (a .words) q))
     (cond (eqb (q .function) 0x20 && eqb (q .command) 0x38) (timed k a (setTimeOf (k .clock) q))
-    (refused Unknown k a))
+    (scanned k a (refuses Unknown)))
 
 -- it is not answered, and sets bit 2; select, write and history reply stand (Outcomes 10, 11; Frames 10)
 unfoldable pub broadcastMade : Inner → Step → Made
 broadcastMade i p =
-    quiet (Ended (cond (eqb (numberOf (p .outcome)) 0) BroadcastDone BroadcastRefused))
+    quiet (Ended (cond (eqb (numberOf (p .says .outcome)) 0) BroadcastDone BroadcastRefused))
     (record { core = withBroadcast (p .core) true; areas = p .areas; history = i .history })
 
 -- ---- a stretch
@@ -288,26 +286,38 @@ unfoldable pub localMade : Inner → Outcome → Areas → Made
 localMade i o a = quiet (Ended o) (record { core = i .core; areas = a; history = i .history })
 
 unfoldable pub wordMade : Inner → Changed → Made
-wordMade i r = localMade i (r .outcome) (withWords (i .areas) (r .area))
+wordMade i r = localMade i (r .says .outcome) (withWords (i .areas) (r .area))
 
 unfoldable pub valueMade : Inner → Changed → Made
-valueMade i r = localMade i (r .outcome) (withValues (i .areas) (r .area))
+valueMade i r = localMade i (r .says .outcome) (withValues (i .areas) (r .area))
 
--- a record is kept, or the file was full, which sets bit 3 (History 5; Frames 10)
+-- a file that was full sets bit 3 (Frames 10)
+unfoldable pub notedIn : Stored → Core → Core
+notedIn Kept k = k
+notedIn Full k = withError k true
+notedIn NotEquipped k = k
+notedIn WrongValues k = k
+
+-- a record offered to file f (History 5)
 unfoldable pub storeMade : Inner → ℕ → List ℕ → Stored → Made
-storeMade i f r Kept =
-    quiet (Storing Kept)
-    (record { core = i .core; areas = i .areas; history = record { memory = i .history .memory; files = storeIn (i .history .files) f r } })
-storeMade i f r Full = quiet (Storing Full) (record { core = withError (i .core) true; areas = i .areas; history = i .history })
-storeMade i f r NotEquipped = quiet (Storing NotEquipped) i
-storeMade i f r WrongValues = quiet (Storing WrongValues) i
+storeMade i f r o =
+    record {
+      answer = Storing o;
+      action = Rest;
+      sent = silent;
+      inner = record { core = notedIn o (i .core); areas = i .areas; history = changedBy (addedBy o f r) (i .history .memory) (i .history) };
+      change = addedBy o f r;
+    }
+
+unfoldable pub localOf : Config → Inner → Local → Made
+localOf c i (setWord n w) = wordMade i (setWordOf (c .inputs) (i .areas .words) (n .0) w)
+localOf c i (setValue n v) = valueMade i (setValueOf (c .calculations) (i .areas .values) (n .0) v)
+localOf c i (pulses n p) = wordMade i (pulsesOf (c .inputs) (i .areas .words) (n .0) p)
+localOf c i (store f e vs) =
+    storeMade i (f .0) (recordChars (record { event = e; clock = i .core .clock }) vs) (storedAs (c .files) (c .values) (i .history .files) (f .0) vs)
 
 -- what a working unit makes of an event
 unfoldable pub makeOf : Config → Inner → Event → Made
-makeOf c i (stretch room s) = judged c i s (heardOf s)
+makeOf c i (stretch s) = judged c i (s .chars) (heardOf (s .chars))
 makeOf c i (elapsed ms) = elapsedMade i ms
-makeOf c i (setWord n w) = wordMade i (setWordOf (c .inputs) (i .areas .words) (n .0) w)
-makeOf c i (setValue n v) = valueMade i (setValueOf (c .calculations) (i .areas .values) (n .0) v)
-makeOf c i (pulses n p) = wordMade i (pulsesOf (c .inputs) (i .areas .words) (n .0) p)
-makeOf c i (store f e vs) =
-    storeMade i (f .0) (recordChars (record { event = e; clock = i .core .clock }) vs) (storedAs (c .files) (c .values) (i .history .files) (f .0) vs)
+makeOf c i (local l) = localOf c i l

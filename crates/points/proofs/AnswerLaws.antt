@@ -18,7 +18,7 @@ use Rattle.model.specs.Inputs.{Changed, unchanged}
 use Rattle.model.specs.declared.Outcome.{Outcome}
 use Rattle.model.specs.declared.Outcome.the-variants.{WrongCount, BufferShort}
 use Rattle.model.specs.declared.Filled.{Filled}
-use Rattle.points.specs.Answer.{noData, replyOf, Sets}
+use Rattle.points.specs.Answer.{noData, Sets}
 
 -- ---- room, and the count of data
 
@@ -52,10 +52,10 @@ fills-gathered o g e f = rw (e, f) (record { ended = refl; counted = omega (arit
 pub fills-as : {entry exit : List ℕ} {m m′ : Scan} {r : Filled} → m ≡ m′ → Fills entry exit m′ r → Fills entry exit m r
 fills-as e a = rw e a
 
-pub sets : {m m′ : Changed} {u w v : List ℕ} {r : Outcome} → m ≡ m′ → r ≡ m′ .outcome → v ≡ cond (eqb (numberOf r) 0) w u → Sets m u w v r
+pub sets : {m m′ : Changed} {u w v : List ℕ} {r : Outcome} → m ≡ m′ → r ≡ m′ .says .outcome → v ≡ cond (eqb (numberOf r) 0) w u → Sets m u w v r
 sets e f w = rw e (record { ended = f; left = w })
 
 -- a refusal, where a reply would tell of the change
 pub resets-refused : (u w : List ℕ) {entry : List ℕ} {m : Changed} {r : Filled} (o : Outcome) (area : List ℕ) → m ≡ unchanged o area
-    → eqb (numberOf o) 0 ≡ false → r ≡ noData o → Fills entry entry (replyOf m) r × (u ≡ cond (eqb (numberOf (r .outcome)) 0) w u)
-resets-refused u w o area e z f = (fills-refused o (ap replyOf e) f refl, rw (f, z))
+    → eqb (numberOf o) 0 ≡ false → r ≡ noData o → Fills entry entry (m .says) r × (u ≡ cond (eqb (numberOf (r .outcome)) 0) w u)
+resets-refused u w o area e z f = (fills-refused o (ap (λ (x : Changed). x .says) e) f refl, rw (f, z))

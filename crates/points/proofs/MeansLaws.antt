@@ -19,7 +19,7 @@ use Rattle.model.specs.declared.Outcome.the-variants.{NotValid, WrongCount}
 use Rattle.model.specs.declared.Filled.{Filled}
 use Rattle.layout.specs.Unit.{unitSizes, unitLong, inputsRegion, configOf, unitOf, unitIn, configIn, setWords, setValues, putIn, putWord, putValue}
 use Rattle.layout.proofs.UnitLaws.{length-put-in, region-size, word-written, value-written}
-use Rattle.points.specs.Answer.{Sets, replyOf}
+use Rattle.points.specs.Answer.{Sets}
 use Rattle.points.proofs.NumberLaws.{has-below, calculation-below}
 use Rattle.points.proofs.ChangeLaws.{word-set, word-other, word-missing, pulses-added, pulses-missing, value-set, value-missing, reset-miscounted, reset-missing, reset-done}
 
@@ -35,16 +35,16 @@ sets-long {u = u} {r = r} k i ys p = ap length (p .left) ∙ long-either (eqb (n
 
 -- reset_count is the same promise
 pub reset-sets : {entry exit v : List ℕ} {r : Filled} (m : Changed) (u w : List ℕ)
-    → Fills entry exit (replyOf m) r × (v ≡ cond (eqb (numberOf (r .outcome)) 0) w u) → Sets m u w v (r .outcome)
+    → Fills entry exit (m .says) r × (v ≡ cond (eqb (numberOf (r .outcome)) 0) w u) → Sets m u w v (r .outcome)
 reset-sets m u w p = record { ended = p .0 .ended; left = p .1 }
 
 -- ---- done, or left
 
 done : {m : Changed} {u w v : List ℕ} {r : Outcome} (ys area : List ℕ) → Sets m u w v r → m ≡ changes ys area → v ≡ w
-done ys area p e = rw (p .ended ∙ ap (λ (x : Changed). x .outcome) e) at (p .left)
+done ys area p e = rw (p .ended ∙ ap (λ (x : Changed). x .says .outcome) e) at (p .left)
 
 kept : {m : Changed} {u w v : List ℕ} {r : Outcome} (o : Outcome) (area : List ℕ) → eqb (numberOf o) 0 ≡ false → Sets m u w v r → m ≡ unchanged o area → v ≡ u
-kept o area z p e = rw z at (rw (p .ended ∙ ap (λ (x : Changed). x .outcome) e) at (p .left))
+kept o area z p e = rw z at (rw (p .ended ∙ ap (λ (x : Changed). x .says .outcome) e) at (p .left))
 
 -- ---- what it means
 

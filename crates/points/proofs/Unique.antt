@@ -11,7 +11,7 @@ use Rattle.model.proofs.Unique.{one-fill}
 use Rattle.model.specs.Inputs.{Changed}
 use Rattle.model.specs.declared.Outcome.{Outcome}
 use Rattle.model.specs.declared.Filled.{Filled}
-use Rattle.points.specs.Answer.{Sets, replyOf}
+use Rattle.points.specs.Answer.{Sets}
 
 -- what an outcome left of a memory
 left-by : (u w : List ℕ) {x y : List ℕ} {r s : Outcome} → x ≡ cond (eqb (numberOf r) 0) w u → y ≡ cond (eqb (numberOf s) 0) w u → r ≡ s → x ≡ y
@@ -23,6 +23,6 @@ one-set {u = u} {w = w} a b = let e = a .ended ∙ sym (b .ended) in (left-by u 
 
 -- reset_count
 pub one-reset : (m : Changed) (u w : List ℕ) {entry x y v z : List ℕ} {r s : Filled}
-    → Fills entry x (replyOf m) r × (v ≡ cond (eqb (numberOf (r .outcome)) 0) w u)
-    → Fills entry y (replyOf m) s × (z ≡ cond (eqb (numberOf (s .outcome)) 0) w u) → (x ≡ y) × (r ≡ s) × (v ≡ z)
+    → Fills entry x (m .says) r × (v ≡ cond (eqb (numberOf (r .outcome)) 0) w u)
+    → Fills entry y (m .says) s × (z ≡ cond (eqb (numberOf (s .outcome)) 0) w u) → (x ≡ y) × (r ≡ s) × (v ≡ z)
 one-reset m u w a b = let f = one-fill (a .0) (b .0) in (f .0, f .1, left-by u w (a .1) (b .1) (ap (λ (g : Filled). g .outcome) (f .1)))

@@ -5,7 +5,6 @@ use Prim.Native.Nat.{ℕ}
 use mathlib.Core.List.{List}
 use lib.Dec.{eqb}
 use Rattle.model.specs.Outcome.{numberOf}
-use Rattle.model.specs.Scan.{Scan}
 use Rattle.model.specs.Inputs.{Changed}
 use Rattle.model.specs.declared.Outcome.{Outcome}
 use Rattle.model.specs.declared.Filled.{Filled}
@@ -13,11 +12,7 @@ use Rattle.model.specs.declared.Filled.{Filled}
 abbrev pub noData : Outcome → Filled
 noData o = record { outcome = o; count = 0 }
 
--- what an event that changes one area has a reply say
-abbrev pub replyOf : Changed → Scan
-replyOf m = record { outcome = m .outcome; chars = m .chars }
-
 -- a memory u after an event that came to m: w where it was done, else as it was
 pub record Sets (m : Changed) (u w v : List ℕ) (r : Outcome) : Type 0 where
-  pub ended : r ≡ m .outcome
+  pub ended : r ≡ m .says .outcome
   pub left : v ≡ cond (eqb (numberOf r) 0) w u

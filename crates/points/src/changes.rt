@@ -24,7 +24,7 @@ ghost use Rattle.model.specs.Scan.{Fills};
 ghost use Rattle.model.specs.Inputs.{hasAccumulator, setWordOf, pulsesOf, resetCountOf};
 ghost use Rattle.model.specs.Calculations.{setValueOf};
 ghost use Rattle.layout.specs.Unit.{unitIn, configIn, putWord, putValue};
-ghost use Rattle.points.specs.Answer.{Sets, replyOf};
+ghost use Rattle.points.specs.Answer.{Sets};
 
 fn has_accumulator(unit: &[u8; UNIT], number: Input) -> bool
     ensures { λ r. ⌜ r ≡ hasAccumulator (configIn (now (unit .entry)) .inputs) (number .0) ⌝ }
@@ -86,7 +86,7 @@ pub fn reset_count<'a>(
     reply: &mut [u8],
 ) -> Filled
     ensures { λ r. ⌜ Fills (now (reply .entry)) (now (reply .exit))
-        (replyOf (resetCountOf (configIn (now (unit .entry)) .inputs) (unitIn (now (unit .entry)) .words) (asked frame (now (body .entry))))) r ⌝ }
+        (resetCountOf (configIn (now (unit .entry)) .inputs) (unitIn (now (unit .entry)) .words) (asked frame (now (body .entry))) .says) r ⌝ }
     ensures { λ r. ⌜ now (unit .exit)
         ≡ cond (eqb (numberOf (r .outcome)) 0) (putWord (now (unit .entry)) (getD (now (body .entry)) 0 0) 0) (now (unit .entry)) ⌝ }
 {

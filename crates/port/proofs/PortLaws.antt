@@ -7,31 +7,30 @@ use mathlib.Core.Bool.{false}
 use lib.ListN.{length}
 use lib.Dec.{eqb}
 use borrow.Author.Tests.{ne-eqb}
-use Rattle.model.specs.Outcome.{damaged}
-use Rattle.model.specs.Step.{stretch, elapsed, Sent, silent, said, Made}
-use Rattle.model.specs.Refusal.{replies}
-use Rattle.model.specs.Port.{damageMark, markAfter, silentAfter, portAfter}
+use Rattle.model.specs.Outcome.{sendingOf, damaged}
+use Rattle.model.specs.Event.{Stretch, stretch, elapsed}
+use Rattle.model.specs.Step.{answered}
+use Rattle.model.specs.Port.{markAfter, silentAfter, portHeard, portAfter}
 use Rattle.model.specs.declared.Outcome.{Outcome}
+use Rattle.model.specs.declared.Answer.{Answer}
 use Rattle.model.specs.declared.Answer.the-variants.{Ended}
-use Rattle.model.specs.declared.Mark.{Mark}
 use Rattle.model.specs.declared.Port.{Port}
 use Rattle.port.specs.Lent.{isSo, markHeard, heardOf}
 
 -- after an elapsed time (Frames 13)
-pub waited-after : (p : Port) (ms : ℕ) (m : Made) → silentAfter p ms ≡ portAfter p (elapsed ms) m
+pub waited-after : (p : Port) (ms : ℕ) (a : Answer) → silentAfter p ms ≡ portAfter p (elapsed ms) a
 unfolding portAfter
-waited-after p ms m = refl
+waited-after p ms a = refl
 
-mark-after : (k : Mark) (o : Outcome) (x : Sent) (a d : ℕ) → isSo a ≡ replies x → isSo d ≡ damaged o → markHeard k a d ≡ markAfter k (Ended o) x
-unfolding markHeard markAfter damageMark replies
-mark-after k o silent a d e f = rw (e, f)
-mark-after k o (said r) a d e f = rw e
+heard-as : (p : Port) (s : List ℕ) (o : Outcome) (a d : ℕ) → isSo a ≡ answered (sendingOf o) → isSo d ≡ damaged o → heardOf p (length s) a d ≡ portHeard p s o
+unfolding heardOf markHeard portHeard markAfter
+heard-as p [] o a d e f = refl
+heard-as p (x ∷ s) o a d e f =
+    let z : eqb (length (x ∷ s)) 0 ≡ false = ne-eqb (length (x ∷ s)) 0 (λ w. omega arith) in
+    rw (z, e, f)
 
--- after a stretch of which m was made, with a reply or none (Frames 13 to 16)
-pub heard-after : (p : Port) (room : ℕ) (s : List ℕ) (m : Made) (o : Outcome) (a d : ℕ) → m .answer ≡ Ended o → isSo a ≡ replies (m .sent) → isSo d ≡ damaged o
-    → heardOf p (length s) a d ≡ portAfter p (stretch room s) m
-unfolding heardOf portAfter
-heard-after p room [] m o a d h e f = refl
-heard-after p room (x ∷ s) m o a d h e f =
-    let y : eqb (length (x ∷ s)) 0 ≡ false = ne-eqb (length (x ∷ s)) 0 (λ w. omega arith) in
-    rw (y, h, mark-after (p .mark) o (m .sent) a d e f)
+-- after a stretch with this outcome (Frames 13 to 16)
+pub heard-after : (p : Port) (t : Stretch) (o : Outcome) (a d : ℕ) → isSo a ≡ answered (sendingOf o) → isSo d ≡ damaged o
+    → heardOf p (length (t .chars)) a d ≡ portAfter p (stretch t) (Ended o)
+unfolding portAfter
+heard-after p t o a d e f = heard-as p (t .chars) o a d e f

@@ -11,10 +11,10 @@ use Rattle.model.specs.Frame.{Request}
 use Rattle.model.specs.Outcome.{numberOf}
 use Rattle.model.specs.Config.{Config}
 use Rattle.model.specs.State.{Areas, Files, Inner}
-use Rattle.model.specs.Scan.{Fills}
+use Rattle.model.specs.Scan.{refuses, Fills}
 use Rattle.model.specs.Inputs as points
 use Rattle.model.specs.Clock.{Timed, setTimeOf}
-use Rattle.model.specs.Step.{Step as StepOf, withWords, withClock, withBroadcast, refused, changed, timed, quiet, broadcastOf, broadcastMade}
+use Rattle.model.specs.Step.{Step as StepOf, withWords, withClock, withBroadcast, scanned, changed, timed, quiet, broadcastOf, broadcastMade}
 use Rattle.model.specs.Port.{sentChars}
 use Rattle.model.specs.declared.Outcome.{Outcome}
 use Rattle.model.specs.declared.Outcome.the-variants.{Unknown, BroadcastDone, BroadcastRefused}
@@ -26,14 +26,13 @@ use Rattle.model.specs.declared.Memory.{Memory}
 use Rattle.model.specs.declared.Mark.{Mark}
 use Rattle.model.specs.declared.Port.{Port}
 use Rattle.layout.specs.Numbers.{Written}
-use Rattle.points.specs.Answer.{replyOf}
 use Rattle.serve.specs.Kept.{innerOf}
 use Rattle.serve.specs.declared.step.Step.{Step}
 use Rattle.serve.specs.declared.Made.{Made as MadeOf}
 use Rattle.serve.specs.Promises.{StirPromise, MadePromise}
 
 module _ (c : Config) (k : Core) (a : Areas) (q : Request) where
-  pub broadcast-not : (q .function ≡ 0x20 → ⊥) → broadcastOf c k a q ≡ refused Unknown k a
+  pub broadcast-not : (q .function ≡ 0x20 → ⊥) → broadcastOf c k a q ≡ scanned k a (refuses Unknown)
   unfolding broadcastOf
   broadcast-not n = simp (ne-eqb _ _ n)
 
@@ -46,24 +45,24 @@ module _ (c : Config) (k : Core) (a : Areas) (q : Request) where
     unfolding broadcastOf
     broadcast-time e = simp (f, e)
 
-    pub broadcast-other : (q .command ≡ 0x11 → ⊥) → (q .command ≡ 0x38 → ⊥) → broadcastOf c k a q ≡ refused Unknown k a
+    pub broadcast-other : (q .command ≡ 0x11 → ⊥) → (q .command ≡ 0x38 → ⊥) → broadcastOf c k a q ≡ scanned k a (refuses Unknown)
     unfolding broadcastOf
     broadcast-other m n = simp (f, ne-eqb _ _ m, ne-eqb _ _ n)
 
 module _ (k : Core) (a : Areas) {w : Memory} {p : Port} {ls : List ℕ} {x : StepOf} {b : Areas} {r : Step} where
-  pub stirs-reset : {y : points.Changed} {entry exit : List ℕ} (f : Filled) → x ≡ changed k a y → Fills entry exit (replyOf y) f
+  pub stirs-reset : {y : points.Changed} {entry exit : List ℕ} (f : Filled) → x ≡ changed k a y → Fills entry exit (y .says) f
       → r ≡ record { outcome = f .outcome; action = Rest; count = f .count } → Written k w p ls → b ≡ withWords a (y .area) → StirPromise x b w p ls (r .outcome)
   unfolding changed
   stirs-reset f z v e n y = rw (z, e, y) (record { ended = v .ended; kept = n; areas = refl })
 
-  pub stirs-time : {t : Timed} (o : Outcome) → x ≡ timed k a t → o ≡ t .outcome
+  pub stirs-time : (t : Timed) (o : Outcome) → x ≡ timed k a t → o ≡ t .says .outcome
       → r ≡ record { outcome = o; action = Rest; count = 0 } → Written (withClock k (t .clock)) w p ls → b ≡ a → StirPromise x b w p ls (r .outcome)
   unfolding timed
-  stirs-time o z v e n y = rw (z, e, y) (record { ended = v; kept = n; areas = refl })
+  stirs-time t o z v e n y = rw (z, e, y) (record { ended = v; kept = n; areas = refl })
 
-  pub stirs-refused : x ≡ refused Unknown k a → r ≡ record { outcome = Unknown; action = Rest; count = 0 } → Written k w p ls → b ≡ a
+  pub stirs-refused : x ≡ scanned k a (refuses Unknown) → r ≡ record { outcome = Unknown; action = Rest; count = 0 } → Written k w p ls → b ≡ a
       → StirPromise x b w p ls (r .outcome)
-  unfolding refused
+  unfolding scanned
   stirs-refused z e n y = rw (z, e, y) (record { ended = refl; kept = n; areas = refl })
 
 pub makes-broadcast : (k : Core) (a : Areas) (w : Memory) (p : Port) (fs : Files) (mark : Mark) (entry : List ℕ) {x : StepOf} {b d : Areas} {ks ls : List ℕ} {n : Outcome} {r : MadeOf} (o : Outcome)

@@ -1,18 +1,20 @@
 -- Functions 20h and 28h by command: the step that each comes to, and how what a function hands back makes that step. Assumes nothing.
 use mathlib.Core.Path.{_≡_, refl, sym, ap, _∙_}
 use Prim.Native.Nat.{ℕ}
-use mathlib.Core.List.{List}
+use mathlib.Core.List.{List, []}
 use mathlib.Core.Bool.{false, cond}
 use lib.ListN.{length, getD}
 use lib.Dec.{eqb}
 use borrow.Author.Tests.{ne-eqb}
+use Rattle.chars.specs.Put.{put}
 use Rattle.chars.proofs.PutLaws.{put-none}
 use Rattle.model.specs.Limits.{replyHead}
 use Rattle.model.specs.Frame.{Request}
 use Rattle.model.specs.Outcome.{numberOf}
 use Rattle.model.specs.Config.{Config}
 use Rattle.model.specs.State.{Areas, Inner}
-use Rattle.model.specs.Scan.{Scan, Fills, counts}
+use Rattle.model.specs.Change.{stays}
+use Rattle.model.specs.Scan.{Scan, refuses, Fills, counts}
 use Rattle.model.specs.Inputs as points
 use Rattle.model.specs.Blocks as blocks
 use Rattle.model.specs.Clock.{Timed, setTimeOf, readTimeOf}
@@ -22,7 +24,6 @@ use Rattle.model.specs.Step.{
   withWords,
   withConfigure,
   withError,
-  refused,
   scanned,
   changed,
   timed,
@@ -31,7 +32,10 @@ use Rattle.model.specs.Step.{
   internalOf,
   returnOf,
   restarted,
-  forgotten,
+  Stepped,
+  alone,
+  initialStep,
+  internalStep,
 }
 use Rattle.model.specs.declared.Outcome.{Outcome}
 use Rattle.model.specs.declared.Outcome.the-variants.{Done, Unknown, WrongCount}
@@ -40,21 +44,18 @@ use Rattle.model.specs.declared.Filled.{Filled}
 use Rattle.model.specs.declared.Core.{Core}
 use Rattle.model.specs.declared.Memory.the-variants.{Nothing}
 use Rattle.model.proofs.Conditions.{by-bool}
-use Rattle.points.specs.Answer.{replyOf}
 use Rattle.points.proofs.MeansLaws.{sets-long, reset-sets, reset-count-means}
 use Rattle.blocks.specs.Answers.{WritesAs, ExecutesAs}
 use Rattle.blocks.specs.declared.Written.{Written}
 use Rattle.blocks.specs.declared.Executed.{Executed}
-use Rattle.history.specs.Change.{stays}
 use Rattle.layout.specs.Unit.{Unit, NumbersOnly, numbersIn, unitLong, unitIn, configIn, setWords, setFixed, putWord}
 use Rattle.serve.specs.Kept.{areasBy, areasIn}
-use Rattle.serve.specs.Changes.{Stepped, alone, initialStep, internalStep, returnStep}
 use Rattle.model.specs.declared.Port.{Port}
 use Rattle.layout.specs.Numbers.{Written as Kept}
 use Rattle.serve.specs.declared.step.Step.{Step}
 use Rattle.serve.specs.Promises.{Tame, StepPromise, Unshifted}
 use Rattle.serve.proofs.KeptLaws.{steady-same, steady-then}
-use Rattle.serve.proofs.TameLaws.{mute}
+use Rattle.serve.proofs.TameLaws.{mute, bare-tame}
 
 -- ---- which step
 
@@ -81,7 +82,7 @@ module _ (c : Config) (i : Inner) (q : Request) where
   internal-time e = simp e
 
   pub internal-unknown : (q .command ≡ 0x00 → ⊥) → (q .command ≡ 0x11 → ⊥) → (q .command ≡ 0x30 → ⊥) → (q .command ≡ 0x31 → ⊥) → (q .command ≡ 0x38 → ⊥)
-      → internalStep c i q ≡ alone i (refused Unknown (i .core) (i .areas))
+      → internalStep c i q ≡ alone i (scanned (i .core) (i .areas) (refuses Unknown))
   unfolding internalStep internalOf
   internal-unknown f₀ f₁ f₂ f₃ f₄ = simp (ne-eqb _ _ f₀, ne-eqb _ _ f₁, ne-eqb _ _ f₂, ne-eqb _ _ f₃, ne-eqb _ _ f₄)
 
@@ -92,21 +93,21 @@ module _ (c : Config) (i : Inner) (q : Request) where
 
 -- function 28h by command
 module _ (i : Inner) (q : Request) where
-  pub return-read : q .command ≡ 0x30 → returnStep i q ≡ alone i (scanned (i .core) (i .areas) (blocks.readOf (i .areas .fixed) (i .areas .block) q))
-  unfolding returnStep returnOf
+  pub return-read : q .command ≡ 0x30 → alone i (returnOf (i .core) (i .areas) q) ≡ alone i (scanned (i .core) (i .areas) (blocks.readOf (i .areas .fixed) (i .areas .block) q))
+  unfolding returnOf
   return-read e = simp e
 
-  pub return-time : q .command ≡ 0x31 → returnStep i q ≡ alone i (scanned (i .core) (i .areas) (readTimeOf (i .core .clock) q))
-  unfolding returnStep returnOf
+  pub return-time : q .command ≡ 0x31 → alone i (returnOf (i .core) (i .areas) q) ≡ alone i (scanned (i .core) (i .areas) (readTimeOf (i .core .clock) q))
+  unfolding returnOf
   return-time e = simp e
 
-  pub return-unknown : (q .command ≡ 0x30 → ⊥) → (q .command ≡ 0x31 → ⊥) → returnStep i q ≡ alone i (refused Unknown (i .core) (i .areas))
-  unfolding returnStep returnOf
+  pub return-unknown : (q .command ≡ 0x30 → ⊥) → (q .command ≡ 0x31 → ⊥) → alone i (returnOf (i .core) (i .areas) q) ≡ alone i (scanned (i .core) (i .areas) (refuses Unknown))
+  unfolding returnOf
   return-unknown f₀ f₁ = simp (ne-eqb _ _ f₀, ne-eqb _ _ f₁)
 
   -- it leaves the files
-  pub return-stays : returnStep i q .change ≡ stays
-  unfolding returnStep alone
+  pub return-stays : alone i (returnOf (i .core) (i .areas) q) .change ≡ stays
+  unfolding alone
   return-stays = refl
 
 -- ---- what a function hands back
@@ -114,84 +115,83 @@ module _ (i : Inner) (q : Request) where
 module _ (i : Inner) {m : Stepped} {a : Areas} {p : Port} {ls entry exit : List ℕ} {r : Step} where
   pub acts-scan : {x : Scan} (f : Filled) → Tame (x .outcome) (x .chars) → m ≡ alone i (scanned (i .core) (i .areas) x) → Fills entry exit x f
       → r ≡ record { outcome = f .outcome; action = Rest; count = f .count } → Kept (i .core) (i .history .memory) p ls → a ≡ i .areas
-      → StepPromise m a (i .history .files) p ls entry exit r
+      → StepPromise m a p ls entry exit r
   unfolding alone scanned
   acts-scan f t z w e k y =
-      rw (z, e, y) (record { ended = w .ended; acted = refl; counted = w .counted; written = w .written; kept = k; areas = refl; files = refl; tame = t })
+      rw (z, e, y) (record { ended = w .ended; acted = refl; counted = w .counted; written = w .written; kept = k; areas = refl; tame = t })
 
   -- no data, with this core
-  pub acts-refused : {k : Core} {o : Outcome} → m ≡ alone i (refused o k (i .areas)) → exit ≡ entry
+  pub acts-refused : {k : Core} {o : Outcome} → m ≡ alone i (scanned k (i .areas) (refuses o)) → exit ≡ entry
       → r ≡ record { outcome = o; action = Rest; count = 0 } → Kept k (i .history .memory) p ls → a ≡ i .areas
-      → StepPromise m a (i .history .files) p ls entry exit r
-  unfolding alone refused
+      → StepPromise m a p ls entry exit r
+  unfolding alone scanned
   acts-refused z x e k y =
       let t = mute in
-      rw (z, e, y, x) (record { ended = refl; acted = refl; counted = refl; written = sym (put-none entry replyHead); kept = k; areas = refl; files = refl; tame = t })
+      rw (z, e, y, x) (record { ended = refl; acted = refl; counted = refl; written = sym (put-none entry replyHead); kept = k; areas = refl; tame = t })
 
   -- 20h/11h changes the words
-  pub acts-changed : {x : points.Changed} (f : Filled) → Tame (x .outcome) (x .chars) → m ≡ alone i (changed (i .core) (i .areas) x) → Fills entry exit (replyOf x) f
+  pub acts-changed : {x : points.Changed} (f : Filled) → Tame (x .says .outcome) (x .says .chars) → m ≡ alone i (changed (i .core) (i .areas) x) → Fills entry exit (x .says) f
       → r ≡ record { outcome = f .outcome; action = Rest; count = f .count } → Kept (i .core) (i .history .memory) p ls → a ≡ withWords (i .areas) (x .area)
-      → StepPromise m a (i .history .files) p ls entry exit r
+      → StepPromise m a p ls entry exit r
   unfolding alone changed
   acts-changed f t z w e k y =
       rw (z, e, y)
-      (record { ended = w .ended; acted = refl; counted = w .counted; written = w .written; kept = k; areas = refl; files = refl; tame = t })
+      (record { ended = w .ended; acted = refl; counted = w .counted; written = w .written; kept = k; areas = refl; tame = t })
 
   -- 20h/30h
-  pub acts-written : {x : blocks.Written} (f : Written) → m ≡ alone i (written (i .core) (i .areas) x) → WritesAs x f → exit ≡ entry
+  pub acts-written : {x : blocks.Written} (f : Written) → x .says .chars ≡ [] → m ≡ alone i (written (i .core) (i .areas) x) → WritesAs x f → exit ≡ entry
       → r ≡ record { outcome = f .outcome; action = Rest; count = 0 } → Kept (withWrite (i .core) (f .write)) (i .history .memory) p ls → a ≡ i .areas
-      → StepPromise m a (i .history .files) p ls entry exit r
+      → StepPromise m a p ls entry exit r
   unfolding alone written
-  acts-written f z w x e k y =
-      let t = mute in
+  acts-written f bare z w x e k y =
+      let t = bare-tame bare in
       rw (z, e, y, x)
-      (record { ended = w .ended; acted = refl; counted = refl; written = sym (put-none entry replyHead); kept = rw (← (w .waiting)) k; areas = refl; files = refl; tame = t })
+      (record { ended = w .ended; acted = refl; counted = sym (ap length bare); written = sym (put-none entry replyHead) ∙ ap (put entry replyHead) (sym bare); kept = rw (← (w .waiting)) k; areas = refl; tame = t })
 
   -- 20h/31h
-  pub acts-executed : {x : blocks.Executed} {u v bl : List ℕ} (f : Executed) → m ≡ alone i (executed (i .core) (i .areas) x) → ExecutesAs u x v bl f → exit ≡ entry
+  pub acts-executed : {x : blocks.Executed} {u v bl : List ℕ} (f : Executed) → x .says .chars ≡ [] → m ≡ alone i (executed (i .core) (i .areas) x) → ExecutesAs u x v bl f → exit ≡ entry
       → r ≡ record { outcome = f .outcome; action = Rest; count = 0 }
       → Kept (withError (withConfigure (i .core) (cond (f .configures) false (i .core .configure))) (cond (f .clears) false (i .core .error))) (i .history .memory) p ls
       → a ≡ record { words = i .areas .words; values = i .areas .values; fixed = x .fixed; block = bl }
-      → StepPromise m a (i .history .files) p ls entry exit r
+      → StepPromise m a p ls entry exit r
   unfolding alone executed
-  acts-executed f z w x e k y =
-      let t = mute in
+  acts-executed f bare z w x e k y =
+      let t = bare-tame bare in
       rw (z, e, y, x)
       (record {
         ended = w .ended;
         acted = refl;
-        counted = refl;
-        written = sym (put-none entry replyHead);
+        counted = sym (ap length bare);
+        written = sym (put-none entry replyHead) ∙ ap (put entry replyHead) (sym bare);
         kept = rw (w .configured, w .cleared) at k;
         areas = rw (w .block-left);
-        files = refl;
         tame = t;
       })
 
   -- 20h/38h
-  pub acts-timed : {x : Timed} {o : Outcome} → m ≡ alone i (timed (i .core) (i .areas) x) → o ≡ x .outcome → exit ≡ entry
+  pub acts-timed : {x : Timed} {o : Outcome} → x .says .chars ≡ [] → m ≡ alone i (timed (i .core) (i .areas) x) → o ≡ x .says .outcome → exit ≡ entry
       → r ≡ record { outcome = o; action = Rest; count = 0 } → Kept (withClock (i .core) (x .clock)) (i .history .memory) p ls → a ≡ i .areas
-      → StepPromise m a (i .history .files) p ls entry exit r
+      → StepPromise m a p ls entry exit r
   unfolding alone timed
-  acts-timed z w x e k y =
-      let t = mute in
+  acts-timed bare z w x e k y =
+      let t = bare-tame bare in
       rw (z, e, y, x)
-      (record { ended = w; acted = refl; counted = refl; written = sym (put-none entry replyHead); kept = k; areas = refl; files = refl; tame = t })
+      (record { ended = w; acted = refl; counted = sym (ap length bare); written = sym (put-none entry replyHead) ∙ ap (put entry replyHead) (sym bare); kept = k; areas = refl; tame = t })
 
   -- 20h/00
   pub acts-initial : (q : Request) → m ≡ initialStep i q → exit ≡ entry
       → r ≡ record { outcome = cond (eqb (length (q .body)) 0) Done WrongCount; action = Rest; count = 0 }
       → Kept (cond (eqb (length (q .body)) 0) (restarted (i .core)) (i .core)) (cond (eqb (length (q .body)) 0) Nothing (i .history .memory)) p ls
-      → a ≡ i .areas → StepPromise m a (i .history .files) p ls entry exit r
-  unfolding initialStep alone refused counts forgotten
+      → a ≡ i .areas → StepPromise m a p ls entry exit r
+  unfolding initialStep alone scanned counts
   acts-initial q z x e k y =
       by-bool (eqb (length (q .body)) 0)
       (λ b.
       rw (z, e, y, x, b)
-      (record { ended = refl; acted = refl; counted = refl; written = sym (put-none entry replyHead); kept = rw b at k; areas = refl; files = refl; tame = mute }))
+      (record { ended = refl; acted = refl; counted = refl; written = sym (put-none entry replyHead); kept = rw b at k; areas = refl; tame = mute }))
       (λ b.
       rw (z, e, y, x, b)
-      (record { ended = refl; acted = refl; counted = refl; written = sym (put-none entry replyHead); kept = rw b at k; areas = refl; files = refl; tame = mute }))
+      (record { ended = refl; acted = refl; counted = refl; written = sym (put-none entry replyHead); kept = rw b at k; areas = refl; tame = mute }))
 
 -- ---- what is left of the unit's memory
 
@@ -235,7 +235,7 @@ module _ (u : List ℕ) where
 
   -- 20h/11h
   pub reset-left : (q : Request) (v : List ℕ) {entry exit : List ℕ} {r : Filled} → length u ≡ unitLong
-      → Fills entry exit (replyOf (points.resetCountOf (configIn u .inputs) (unitIn u .words) q)) r × (v ≡ cond (eqb (numberOf (r .outcome)) 0) (putWord u (getD (q .body) 0 0) 0) u)
+      → Fills entry exit (points.resetCountOf (configIn u .inputs) (unitIn u .words) q .says) r × (v ≡ cond (eqb (numberOf (r .outcome)) 0) (putWord u (getD (q .body) 0 0) 0) u)
       → (unitIn v ≡ setWords (unitIn u) (points.resetCountOf (configIn u .inputs) (unitIn u .words) q .area)) × (length v ≡ length u)
   reset-left q v long p =
       let w = reset-sets (points.resetCountOf (configIn u .inputs) (unitIn u .words) q) u (putWord u (getD (q .body) 0 0) 0) p in

@@ -2,7 +2,8 @@
 use mathlib.Core.Path.{refl, _∙_}
 use Prim.Native.Nat.{ℕ}
 use mathlib.Core.List.{List}
-use Rattle.history.specs.Change.{stays, areaAfter, countsAfter}
+use Rattle.model.specs.Change.{stays}
+use Rattle.history.specs.Change.{areaAfter, countsAfter}
 use Rattle.serve.specs.Kept.{Steady}
 use Rattle.serve.specs.Changes.{Shifted}
 

@@ -8,6 +8,5 @@ pub mod BroadcastLaws
 pub mod StepLaws
 pub mod TellingLaws
 pub mod ServedLaws
-pub mod MarkLaws
 pub mod StretchLaws
 pub mod Unique

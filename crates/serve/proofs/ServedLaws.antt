@@ -12,7 +12,8 @@ use Rattle.model.specs.Frame.{Request, replyChars}
 use Rattle.model.specs.Outcome.{sendingOf}
 use Rattle.model.specs.Config.{Config}
 use Rattle.model.specs.State.{Areas, Files, Inner}
-use Rattle.model.specs.Step.{Step as StepOf, said, sentAs, answered, statusOf, settled, finished, served}
+use Rattle.model.specs.Change.{applied, changedBy}
+use Rattle.model.specs.Step.{Step as StepOf, said, sentAs, answered, statusOf, settled, stepOf, finished, served}
 use Rattle.model.specs.Port.{portStatus, sentChars}
 use Rattle.model.specs.declared.Outcome.{Outcome}
 use Rattle.model.specs.declared.Core.{Core}
@@ -23,13 +24,11 @@ use Rattle.model.proofs.Conditions.{by-bool}
 use Rattle.layout.specs.Numbers.{coreIn, memoryIn, portIn, Written}
 use Rattle.frames.specs.Framed.{framedIn}
 use Rattle.frames.proofs.FillLaws.{framed-is, framed-long}
-use Rattle.serve.specs.Changes.{stepOf}
 use Rattle.serve.specs.Ends.{headOf, repliedIn, Replies, heardBy}
 use Rattle.serve.proofs.EndingLaws.{saidOf, said-when, silent-when}
 use Rattle.serve.specs.declared.step.Step.{Step}
 use Rattle.serve.specs.declared.Made.{Made as MadeOf}
 use Rattle.serve.specs.Promises.{MadePromise, Tame, StepPromise}
-use Rattle.serve.proofs.StepLaws.{served-is}
 
 -- what is written over wholly does not matter
 put-over : (xs : List ℕ) (n : ℕ) (ys zs : List ℕ) → n + length ys ≤ length zs → put (put xs n ys) 0 zs ≡ put xs 0 zs
@@ -75,17 +74,17 @@ module _ (found : Core) (q : Request) (o : Outcome) (mark : Mark) (entry mid exi
   sent-as = by-bool (answered (sendingOf o)) sent-said sent-silent
 
 pub makes-served : (c : Config) (i : Inner) (q : Request) (mark : Mark) {areas : Areas} {fs : Files} {p : Port} {ks ls entry mid exit : List ℕ} {r : Step} {x : MadeOf} {n : ℕ}
-    → longestReply ≤ length entry → StepPromise (stepOf c i q) areas fs p ks entry mid r
+    → longestReply ≤ length entry → StepPromise (stepOf c i q) areas p ks entry mid r → fs ≡ applied (stepOf c i q .change) (i .history .files)
     → Replies mid exit (r .outcome) (headOf (statusOf (i .core)) (q .address) (q .function) (r .outcome) (r .count) (portStatus mark)) n
     → Written (settled q (r .outcome) (coreIn ks)) (memoryIn ks) (heardBy (portIn ks) (r .outcome)) ls
     → x ≡ record { outcome = r .outcome; action = r .action; sent = n }
     → MadePromise (served c i q) mark areas fs (heardBy p (x .outcome)) ls entry exit x
-unfolding finished
-makes-served c i q mark {entry = entry} {mid} {exit} {r} {n = n} l a f k e =
+unfolding served finished changedBy
+makes-served c i q mark {entry = entry} {mid} {exit} {r} {n = n} l a fl f k e =
     let p : StepOf = stepOf c i q .step in
-    let f′ : Replies mid exit (p .outcome) (headOf (statusOf (i .core)) (q .address) (q .function) (p .outcome) (length (p .chars)) (portStatus mark)) n = rw (a .counted, a .ended) at f in
-    let g = sent-as (i .core) q (p .outcome) mark entry mid exit (p .chars) n (a .written) l (a .tame) f′ in
-    rw (served-is c i q, e, a .ended)
+    let f′ : Replies mid exit (p .says .outcome) (headOf (statusOf (i .core)) (q .address) (q .function) (p .says .outcome) (length (p .says .chars)) (portStatus mark)) n = rw (a .counted, a .ended) at f in
+    let g = sent-as (i .core) q (p .says .outcome) mark entry mid exit (p .says .chars) n (a .written) l (a .tame) f′ in
+    rw (e, a .ended)
     (record {
       answered = refl;
       acted = a .acted;
@@ -95,5 +94,5 @@ makes-served c i q mark {entry = entry} {mid} {exit} {r} {n = n} l a f k e =
       written = g .1;
       kept = rw (a .ended, a .kept .means .core, a .kept .means .memory, a .kept .means .port) at k;
       areas = a .areas;
-      files = a .files;
+      files = fl;
     })

@@ -11,7 +11,8 @@ use Rattle.model.specs.Outcome.{numberOf}
 use Rattle.model.specs.Refusal.{declined}
 use Rattle.model.specs.Config.{Config, within}
 use Rattle.model.specs.State.{Areas, Files, Inner}
-use Rattle.model.specs.Scan.{counts}
+use Rattle.model.specs.Change.{stays, applied}
+use Rattle.model.specs.Scan.{refuses}
 use Rattle.model.specs.Inputs as points
 use Rattle.model.specs.Calculations.{calculationsOf}
 use Rattle.model.specs.Tables.{tablesOf}
@@ -21,17 +22,16 @@ use Rattle.model.specs.Step.{
   Step as StepOf,
   Made,
   withHold,
-  refused,
   scanned,
   controlled,
+  returnOf,
   otherOf,
-  finished,
-  beside,
+  Stepped,
+  alone,
   brokenOff,
-  historyMade,
-  initialises,
-  initialised,
-  served,
+  telling,
+  internalStep,
+  stepOf,
 }
 use Rattle.model.specs.declared.Outcome.the-variants.{Unknown}
 use Rattle.model.specs.declared.Hold.{Hold}
@@ -43,11 +43,9 @@ use Rattle.model.proofs.Refusing.{control-leaves}
 use Rattle.layout.specs.Numbers.{Written}
 use Rattle.control.specs.declared.Ran.{Ran}
 use Rattle.control.specs.Runs.{Runs}
-use Rattle.history.specs.Change.{Change, stays, freedBy}
 use Rattle.layout.specs.Unit.{NumbersOnly, unitIn}
 use Rattle.history.specs.Layout.{filesIn}
 use Rattle.serve.specs.Kept.{areasIn}
-use Rattle.serve.specs.Changes.{Stepped, alone, telling, initialStep, internalStep, returnStep, stepOf}
 use Rattle.serve.proofs.KeptLaws.{still}
 use Rattle.serve.specs.declared.step.Step.{Step}
 use Rattle.serve.specs.Promises.{Tame, StepPromise, leaves, StepInPromise, MadeInPromise}
@@ -62,65 +60,58 @@ module _ (c : Config) (i : Inner) (q : Request) where
   step-broken b = rw b
 
   module _ (b : breaks (i .core .hold) q ≡ false) where
-    pub step-told : q .function ≡ 0x04 → stepOf c i q ≡ telling i (historyOf (c .files) (c .values) (i .history) q) (freedBy (c .files) (i .history .memory) q)
+    pub step-told : q .function ≡ 0x04 → stepOf c i q ≡ telling i (historyOf (c .files) (c .values) (i .history) q)
     unfolding stepOf
     step-told e = simp (b, e)
 
     pub step-inputs : q .function ≡ 0x00 → stepOf c i q ≡ alone i (scanned (i .core) (i .areas) (points.inputsOf (c .inputs) (i .areas .words) q))
-    unfolding stepOf initialises otherOf
+    unfolding stepOf otherOf
     step-inputs e = simp (b, e)
 
     pub step-calculations : q .function ≡ 0x03 → stepOf c i q ≡ alone i (scanned (i .core) (i .areas) (calculationsOf (c .calculations) (i .areas .values) q))
-    unfolding stepOf initialises otherOf
+    unfolding stepOf otherOf
     step-calculations e = simp (b, e)
 
     pub step-tables : q .function ≡ 0x0A → stepOf c i q ≡ alone i (scanned (i .core) (i .areas) (tablesOf (c .inputs) (i .areas .fixed) (i .areas .words) q))
-    unfolding stepOf initialises otherOf
+    unfolding stepOf otherOf
     step-tables e = simp (b, e)
 
     pub step-control : q .function ≡ 0x10 → stepOf c i q ≡ alone i (controlled (i .core) (i .areas) (controlOf (c .outputs) (i .core .hold) q))
-    unfolding stepOf initialises otherOf
+    unfolding stepOf otherOf
     step-control e = simp (b, e)
 
     pub step-internal : q .function ≡ 0x20 → stepOf c i q ≡ internalStep c i q
-    unfolding stepOf internalStep initialises otherOf
+    unfolding stepOf
     step-internal e = simp (b, e)
 
-    pub step-return : q .function ≡ 0x28 → stepOf c i q ≡ returnStep i q
-    unfolding stepOf returnStep initialises otherOf
+    pub step-return : q .function ≡ 0x28 → stepOf c i q ≡ alone i (returnOf (i .core) (i .areas) q)
+    unfolding stepOf otherOf
     step-return e = simp (b, e)
 
     pub step-unknown : (q .function ≡ 0x00 → ⊥) → (q .function ≡ 0x03 → ⊥) → (q .function ≡ 0x04 → ⊥) → (q .function ≡ 0x0A → ⊥) → (q .function ≡ 0x10 → ⊥)
-        → (q .function ≡ 0x20 → ⊥) → (q .function ≡ 0x28 → ⊥) → stepOf c i q ≡ alone i (refused Unknown (i .core) (i .areas))
-    unfolding stepOf initialises otherOf
+        → (q .function ≡ 0x20 → ⊥) → (q .function ≡ 0x28 → ⊥) → stepOf c i q ≡ alone i (scanned (i .core) (i .areas) (refuses Unknown))
+    unfolding stepOf otherOf
     step-unknown f₀ f₁ f₂ f₃ f₄ f₅ f₆ =
         simp (b, ne-eqb _ _ f₀, ne-eqb _ _ f₁, ne-eqb _ _ f₂, ne-eqb _ _ f₃, ne-eqb _ _ f₄, ne-eqb _ _ f₅, ne-eqb _ _ f₆)
-
-  -- every frame for this unit is settled and sent alike
-  pub served-is : served c i q ≡ finished (i .core) q (stepOf c i q .step) (stepOf c i q .history)
-  unfolding served stepOf beside alone historyMade telling initialised initialStep
-  served-is =
-      by-bool (breaks (i .core .hold) q) (λ a. rw a) (λ a. by-bool (eqb (q .function) 0x04) (λ b. rw (a, b))
-      (λ b. by-bool (initialises q) (λ d. by-bool (counts 0 q) (λ e. rw (a, b, d, e)) (λ e. rw (a, b, d, e))) (λ d. rw (a, b, d))))
 
 -- ---- what a function hands back
 
 module _ (i : Inner) {m : Stepped} {a : Areas} {p : Port} {ls entry exit : List ℕ} {r : Step} where
-  pub acts-control : {x : Controlled} (f : Ran) → Tame (x .outcome) (x .chars) → m ≡ alone i (controlled (i .core) (i .areas) x) → Runs entry exit x f
+  pub acts-control : {x : Controlled} (f : Ran) → Tame (x .says .outcome) (x .says .chars) → m ≡ alone i (controlled (i .core) (i .areas) x) → Runs entry exit x f
       → r ≡ record { outcome = f .outcome; action = f .action; count = f .count } → Written (withHold (i .core) (f .hold)) (i .history .memory) p ls → a ≡ i .areas
-      → StepPromise m a (i .history .files) p ls entry exit r
+      → StepPromise m a p ls entry exit r
   unfolding alone controlled
   acts-control f t z w e k y =
       rw (z, e, y)
-      (record { ended = w .ended; acted = w .acted; counted = w .counted; written = w .written; kept = rw (w .held) at k; areas = refl; files = refl; tame = t })
+      (record { ended = w .ended; acted = w .acted; counted = w .counted; written = w .written; kept = rw (w .held) at k; areas = refl; tame = t })
 
 -- a request of 10h that is refused leaves the select, but for 11 and 12
 run-leaves : (k : Core) (a : Areas) (table : List ℕ) (h : Hold) (q : Request) {entry exit : List ℕ} {r : Ran} → Runs entry exit (controlOf table h q) r
     → leaves (r .outcome) ≡ true → r .hold ≡ h
 unfolding declined
 run-leaves k a table h q w e =
-    let n = numberOf (controlOf table h q .outcome) in
-    let l : leaves (controlOf table h q .outcome) ≡ true = rw (w .ended) at e in
+    let n = numberOf (controlOf table h q .says .outcome) in
+    let l : leaves (controlOf table h q .says .outcome) ≡ true = rw (w .ended) at e in
     let most = and-left (within 6 15 n && not (eqb n 11)) (not (eqb n 12)) l in
     w .held
     ∙ control-leaves k a table h q (and-left (within 6 15 n) (not (eqb n 11)) most)
@@ -132,16 +123,17 @@ pub run-held : (k : Core) (a : Areas) (table : List ℕ) (h : Hold) (q : Request
 run-held k a table h q {r = r} w = by-bool (leaves (r .outcome)) (λ e. rw e (sym (run-leaves k a table h q w e))) (λ e. rw e)
 
 -- a step that leaves the files
-pub acted-still : {m : Stepped} {a : Areas} {fs : Files} {p : Port} {ls area held entry exit : List ℕ} {r : Step} → m .change ≡ stays → StepPromise m a fs p ls entry exit r
-    → StepInPromise m a fs p ls area held area held entry exit r
-acted-still {area = area} {held} e w = record { acts = w; changed = rw e (still area held) }
+pub acted-still : {m : Stepped} {a : Areas} {fs : Files} {p : Port} {ls area held entry exit : List ℕ} {r : Step} → m .change ≡ stays → StepPromise m a p ls entry exit r
+    → StepInPromise m a fs fs p ls area held area held entry exit r
+unfolding applied
+acted-still {area = area} {held} e w = record { acts = w; files = rw e refl; changed = rw e (still area held) }
 
 pub alone-stays : (i : Inner) (p : StepOf) {m : Stepped} → m ≡ alone i p → m .change ≡ stays
 unfolding alone
 alone-stays i p e = rw e
 
 -- what was made, and then only numbers written
-pub makes-renumbered : (v w block values : List ℕ) {m : Made} {ch : Change} {mark : Mark} {p : Port} {ls area held area′ entry exit : List ℕ} {r : MadeOf} → NumbersOnly v w
-    → MadeInPromise m ch mark (areasIn v block) (filesIn values area′ (unitIn v .counts)) p ls area held area′ (unitIn v .counts) entry exit r
-    → MadeInPromise m ch mark (areasIn w block) (filesIn values area′ (unitIn w .counts)) p ls area held area′ (unitIn w .counts) entry exit r
+pub makes-renumbered : (v w block values : List ℕ) {m : Made} {mark : Mark} {p : Port} {ls area held area′ entry exit : List ℕ} {r : MadeOf} → NumbersOnly v w
+    → MadeInPromise m mark (areasIn v block) (filesIn values area′ (unitIn v .counts)) p ls area held area′ (unitIn v .counts) entry exit r
+    → MadeInPromise m mark (areasIn w block) (filesIn values area′ (unitIn w .counts)) p ls area held area′ (unitIn w .counts) entry exit r
 makes-renumbered v w block values n h = rw (unshifted-numbers v w n .counts, numbers-kept v block w n) h

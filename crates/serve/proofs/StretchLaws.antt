@@ -13,8 +13,9 @@ use Rattle.model.specs.Frame.{asked, unitOf, broadcastUnit, heardOf, requestIn}
 use Rattle.model.specs.Config.{Config}
 use Rattle.model.specs.State.{Areas, Files, Inner}
 use Rattle.model.specs.Fits.{fits}
-use Rattle.model.specs.Step.{Made, stretch, served, broadcastOf, broadcastMade, framed, judged, makeOf}
-use Rattle.model.specs.Run.{short, Result, turnedAway, shows, moves}
+use Rattle.model.specs.Step.{Made, quiet, served, broadcastOf, broadcastMade, framed, judged, makeOf}
+use Rattle.model.specs.Port.{portHeard, portAfter}
+use Rattle.model.specs.Run.{short, Result, turnedAway, shows, moves, decided, changeOf}
 use Rattle.model.specs.declared.Outcome.the-variants.{NotWhole, CheckWrong, OtherUnit, NotConfigured, BufferShort}
 use Rattle.model.specs.declared.Action.the-variants.{Rest}
 use Rattle.model.specs.declared.Frame.{Frame}
@@ -26,23 +27,20 @@ use Rattle.model.proofs.FrameLaws.{heard-whole}
 use Rattle.layout.specs.Numbers.{portIn, Written}
 use Rattle.layout.proofs.NumbersLaws.{written-readable}
 use Rattle.history.specs.Layout.{filesIn}
-use Rattle.history.specs.Change.{Change}
 use Rattle.history.proofs.LayoutLaws.{length-area}
 use Rattle.layout.specs.Unit.{Renumbered, unitIn, configIn, numbersIn}
 use Rattle.layout.proofs.UnitLaws.{numbers-left, numbers-only}
 use Rattle.model.proofs.TurnedAway.{short-away, unfit-away, works}
 use Rattle.serve.specs.Kept.{Kept, areasIn, innerOf, stateOf, Owned, keptIn, standing, Steady}
-use Rattle.serve.specs.Changes.{stepOf, changeFramed, changeHeard, changeMade, changeOf}
 use Rattle.serve.proofs.FitLaws.{stands-again}
 use Rattle.serve.proofs.KeptLaws.{still, steady-same}
-use Rattle.serve.specs.Ends.{heardBy, portBy, heardIn}
-use Rattle.serve.proofs.EndingLaws.{heard-written}
+use Rattle.serve.specs.Ends.{heardBy, heardIn}
+use Rattle.serve.proofs.EndingLaws.{heard-written, port-ended}
 use Rattle.serve.specs.declared.Made.{Made as MadeOf}
 use Rattle.serve.specs.Promises.{MadePromise, MadeInPromise}
 use Rattle.serve.proofs.CommandLaws.{unshifted-numbers, numbers-kept}
 use Rattle.serve.proofs.BroadcastLaws.{makes-quiet}
-use Rattle.serve.specs.Stretch.{Turns, StretchPromise}
-use Rattle.serve.proofs.MarkLaws.{port-judged}
+use Rattle.serve.specs.Stretch.{coming, Turns, StretchPromise}
 
 -- ---- a stretch that a working unit hears
 
@@ -52,30 +50,30 @@ frame-data s f h b = let n : length s - 8 ≡ f .count = omega (arith, heard-who
 module _ (c : Config) (i : Inner) (s : List ℕ) (mark : Mark) (p : Port) {area held entry : List ℕ} {x : MadeOf} where
   module _ {ks : List ℕ} (k : Written (i .core) (i .history .memory) p ks) where
     pub judged-broken : heardOf s ≡ Broken → x ≡ record { outcome = NotWhole; action = Rest; sent = 0 }
-        → MadeInPromise (judged c i s (heardOf s)) (changeHeard c i s (heardOf s)) mark (i .areas) (i .history .files) p ks area held area held entry entry x
-    unfolding judged changeHeard
+        → MadeInPromise (judged c i s (heardOf s)) mark (i .areas) (i .history .files) p ks area held area held entry entry x
+    unfolding judged quiet
     judged-broken h e = rw h (record { makes = makes-quiet i mark entry NotWhole e k; changed = still area held })
 
     pub judged-wrong : heardOf s ≡ Wrong → x ≡ record { outcome = CheckWrong; action = Rest; sent = 0 }
-        → MadeInPromise (judged c i s (heardOf s)) (changeHeard c i s (heardOf s)) mark (i .areas) (i .history .files) p ks area held area held entry entry x
-    unfolding judged changeHeard
+        → MadeInPromise (judged c i s (heardOf s)) mark (i .areas) (i .history .files) p ks area held area held entry entry x
+    unfolding judged quiet
     judged-wrong h e = rw h (record { makes = makes-quiet i mark entry CheckWrong e k; changed = still area held })
 
   module _ (f : Frame) {body : List ℕ} {to : ℕ} (h : heardOf s ≡ Whole f) (b : body ≡ part s 6 (length s - 8)) (u : to ≡ unitOf (f .address)) where
     -- for this unit
     pub judged-own : {a : Areas} {fs : Files} {ls area′ held′ exit : List ℕ} → to ≡ c .unit
-        → MadeInPromise (served c i (asked f body)) (stepOf c i (asked f body) .change) mark a fs (heardBy p (x .outcome)) ls area held area′ held′ entry exit x
-        → MadeInPromise (judged c i s (heardOf s)) (changeHeard c i s (heardOf s)) mark a fs (portBy p s (x .outcome)) ls area held area′ held′ entry exit x
-    unfolding judged framed changeHeard changeFramed requestIn portBy
+        → MadeInPromise (served c i (asked f body)) mark a fs (heardBy p (x .outcome)) ls area held area′ held′ entry exit x
+        → MadeInPromise (judged c i s (heardOf s)) mark a fs (portHeard p s (x .outcome)) ls area held area′ held′ entry exit x
+    unfolding judged framed requestIn
     judged-own t w =
         let long : length s ≡ 0 → ⊥ = λ e. absurd (omega (arith, heard-whole s f h .short)) in
-        rw (h, eq-eqb (unitOf (f .address)) (c .unit) (sym u ∙ t), ← frame-data s f h b, ne-eqb (length s) 0 long) w
+        rw (h, eq-eqb (unitOf (f .address)) (c .unit) (sym u ∙ t), ← frame-data s f h b, port-ended p s (x .outcome) long) w
 
     -- for all
     pub judged-all : {a : Areas} {fs : Files} {ls : List ℕ} → (to ≡ c .unit → ⊥) → to ≡ 0x7FF
         → MadePromise (broadcastMade i (broadcastOf c (i .core) (i .areas) (asked f body))) mark a fs p ls entry entry x
-        → MadeInPromise (judged c i s (heardOf s)) (changeHeard c i s (heardOf s)) mark a fs p ls area held area held entry entry x
-    unfolding judged framed changeHeard changeFramed requestIn
+        → MadeInPromise (judged c i s (heardOf s)) mark a fs p ls area held area held entry entry x
+    unfolding judged framed requestIn broadcastMade quiet
     judged-all n t w =
         rw (h, ne-eqb (unitOf (f .address)) (c .unit) (λ e. n (u ∙ e)), eq-eqb (unitOf (f .address)) broadcastUnit (sym u ∙ t), ← frame-data s f h b)
         (record { makes = w; changed = still area held })
@@ -83,8 +81,8 @@ module _ (c : Config) (i : Inner) (s : List ℕ) (mark : Mark) (p : Port) {area 
     -- for another
     pub judged-other : {ks : List ℕ} → Written (i .core) (i .history .memory) p ks → (to ≡ c .unit → ⊥) → (to ≡ 0x7FF → ⊥)
         → x ≡ record { outcome = OtherUnit; action = Rest; sent = 0 }
-        → MadeInPromise (judged c i s (heardOf s)) (changeHeard c i s (heardOf s)) mark (i .areas) (i .history .files) p ks area held area held entry entry x
-    unfolding judged framed changeHeard changeFramed requestIn
+        → MadeInPromise (judged c i s (heardOf s)) mark (i .areas) (i .history .files) p ks area held area held entry entry x
+    unfolding judged framed requestIn quiet
     judged-other k n m e =
         rw (h, ne-eqb (unitOf (f .address)) (c .unit) (λ e. n (u ∙ e)), ne-eqb (unitOf (f .address)) broadcastUnit (λ e. m (u ∙ e)))
         (record { makes = makes-quiet i mark entry OtherUnit e k; changed = still area held })
@@ -94,10 +92,10 @@ module _ (c : Config) (i : Inner) (s : List ℕ) (mark : Mark) (p : Port) {area 
 module _ (c : Config) (s : List ℕ) (k : Kept) (entry : List ℕ) {r : MadeOf} where
   pub turns-short : length entry < longestReply
       → r ≡ record { outcome = BufferShort; action = Rest; sent = 0 } → Turns c s k k entry entry r
-  unfolding short turnedAway changeOf
+  unfolding short turnedAway changeOf decided
   turns-short l e =
-      let t : short (stretch (length entry) s) ≡ true = lt-ltb (length entry) 520 l in
-      let w = short-away c (stateOf c k) (stretch (length entry) s) t in
+      let t : short (coming entry s) ≡ true = lt-ltb (length entry) 520 l in
+      let w = short-away c (stateOf c k) (coming entry s) t in
       rw e
       (record {
         answered = sym (ap (λ (x : Result). x .answer) (w .0));
@@ -112,10 +110,10 @@ module _ (c : Config) (s : List ℕ) (k : Kept) (entry : List ℕ) {r : MadeOf} 
 
   pub turns-unfit : longestReply ≤ length entry → fits c (stateOf c k) ≡ false
       → r ≡ record { outcome = NotConfigured; action = Rest; sent = 0 } → Turns c s k k entry entry r
-  unfolding short turnedAway changeOf
+  unfolding short turnedAway changeOf decided
   turns-unfit l b e =
-      let t : short (stretch (length entry) s) ≡ false = le-ltb (length entry) 520 l in
-      let w = unfit-away c (stateOf c k) (stretch (length entry) s) t b in
+      let t : short (coming entry s) ≡ false = le-ltb (length entry) 520 l in
+      let w = unfit-away c (stateOf c k) (coming entry s) t b in
       rw e
       (record {
         answered = sym (ap (λ (x : Result). x .answer) (w .0));
@@ -149,10 +147,10 @@ module _ (s : List ℕ) (x : Owned) (entry : List ℕ) {r : MadeOf} where
       }
 
 -- what was made of a stretch, and the port marked by it
-pub makes-marked : (s : List ℕ) {m : Made} {ch : Change} {mark : Mark} {a : Areas} {fs : Files} {p : Port} {ks ls area held area′ held′ entry exit : List ℕ} {r x : MadeOf}
-    → MadeInPromise m ch mark a fs p ks area held area′ held′ entry exit r
+pub makes-marked : (s : List ℕ) {m : Made} {mark : Mark} {a : Areas} {fs : Files} {p : Port} {ks ls area held area′ held′ entry exit : List ℕ} {r x : MadeOf}
+    → MadeInPromise m mark a fs p ks area held area′ held′ entry exit r
     → (x ≡ r) × (ls ≡ heardIn ks s (r .outcome))
-    → MadeInPromise m ch mark a fs (portBy p s (x .outcome)) ls area held area′ held′ entry exit x
+    → MadeInPromise m mark a fs (portHeard p s (x .outcome)) ls area held area′ held′ entry exit x
 makes-marked s v n =
     let z = v .makes in
     rw (n .0)
@@ -172,28 +170,28 @@ makes-marked s v n =
     })
 
 -- the same in a unit's memory, of which only numbers are written
-pub unit-marked : (s v w block values : List ℕ) {m : Made} {ch : Change} {mark : Mark} {p : Port} {area held area′ entry exit : List ℕ} {r x : MadeOf}
-    → MadeInPromise m ch mark (areasIn v block) (filesIn values area′ (unitIn v .counts)) p (numbersIn v) area held area′ (unitIn v .counts) entry exit r
+pub unit-marked : (s v w block values : List ℕ) {m : Made} {mark : Mark} {p : Port} {area held area′ entry exit : List ℕ} {r x : MadeOf}
+    → MadeInPromise m mark (areasIn v block) (filesIn values area′ (unitIn v .counts)) p (numbersIn v) area held area′ (unitIn v .counts) entry exit r
     → (x ≡ r) × Renumbered v w (heardIn (numbersIn v) s (r .outcome))
-    → MadeInPromise m ch mark (areasIn w block) (filesIn values area′ (unitIn w .counts)) (portBy p s (x .outcome)) (numbersIn w) area held area′ (unitIn w .counts) entry exit x
+    → MadeInPromise m mark (areasIn w block) (filesIn values area′ (unitIn w .counts)) (portHeard p s (x .outcome)) (numbersIn w) area held area′ (unitIn w .counts) entry exit x
 unit-marked s v w block values h n =
     let only = numbers-only v w (n .1) in
     rw (unshifted-numbers v w only .counts, numbers-kept v block w only) (makes-marked s h (n .0, numbers-left v w (n .1)))
 
 pub stretch-made : (s : List ℕ) (x : Owned) (entry : List ℕ) (y : Owned) {exit : List ℕ} (m : MadeOf) → standing x ≡ true → longestReply ≤ length entry
     → fits (configIn (x .unit)) (stateOf (configIn (x .unit)) (keptIn x)) ≡ true
-    → MadeInPromise (judged (configIn (x .unit)) (stateOf (configIn (x .unit)) (keptIn x) .inner) s (heardOf s)) (changeHeard (configIn (x .unit)) (stateOf (configIn (x .unit)) (keptIn x) .inner) s (heardOf s))
-    (portIn (numbersIn (x .unit)) .mark) (areasIn (y .unit) (y .block)) (filesIn (configIn (x .unit) .values) (y .area) (unitIn (y .unit) .counts)) (portBy (portIn (numbersIn (x .unit))) s (m .outcome)) (numbersIn (y .unit))
+    → MadeInPromise (judged (configIn (x .unit)) (stateOf (configIn (x .unit)) (keptIn x) .inner) s (heardOf s))
+    (portIn (numbersIn (x .unit)) .mark) (areasIn (y .unit) (y .block)) (filesIn (configIn (x .unit) .values) (y .area) (unitIn (y .unit) .counts)) (portHeard (portIn (numbersIn (x .unit))) s (m .outcome)) (numbersIn (y .unit))
     (x .area) (unitIn (x .unit) .counts) (y .area) (unitIn (y .unit) .counts) entry exit m → Steady (x .unit) (y .unit)
     → StretchPromise s x y entry exit m
-unfolding short makeOf shows moves changeOf changeMade
+unfolding short makeOf shows moves portAfter changeOf decided
 stretch-made s x entry y {exit} m g l b v steady =
     let c = configIn (x .unit) in
-    let t : short (stretch (length entry) s) ≡ false = le-ltb (length entry) 520 l in
-    let w = works c (stateOf c (keptIn x)) (stretch (length entry) s) t b in
+    let t : short (coming entry s) ≡ false = le-ltb (length entry) 520 l in
+    let w = works c (stateOf c (keptIn x)) (coming entry s) t b in
     let z = v .makes in
     let k = z .kept in
-    let port = sym (port-judged c (stateOf c (keptIn x) .inner) s (heardOf s) (portIn (numbersIn (x .unit))) (m .outcome) (length entry) (z .answered)) in
+    let port = ap (portAfter (portIn (numbersIn (x .unit))) (coming entry s)) (z .answered) in
     let long : length (y .area) ≡ length (x .area) = ap length (v .changed .moved) ∙ length-area _ _ _ in
     record {
       read = λ _. record {

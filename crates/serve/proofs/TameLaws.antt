@@ -14,8 +14,8 @@ use Rattle.model.specs.Frame.{Request, masterOf}
 use Rattle.model.specs.Outcome.{sendingOf}
 use Rattle.model.specs.Scan.{Scan, counts, withNoData}
 use Rattle.model.specs.Inputs.{Changed, hasAccumulator, resetCountOf, unreserved, inputsOf}
-use Rattle.model.specs.Blocks.{reaches, blockOf, returned, readOf}
-use Rattle.model.specs.Clock.{timeChars, readTimeOf}
+use Rattle.model.specs.Blocks.{Written, Executed, reaches, blockOf, waitsFor, writeWhen, writeOf, notExecuted, executes, executeWhen, executeOf, returned, readOf}
+use Rattle.model.specs.Clock.{Timed, clockFits, timeIn, digitsFit, setTimeOf, timeChars, readTimeOf}
 use Rattle.model.specs.Step.{answered}
 use Rattle.model.specs.declared.Clock.{Clock}
 use Rattle.model.specs.declared.Outcome.{Outcome}
@@ -24,14 +24,17 @@ use Rattle.serve.specs.Promises.{Tame}
 use native.Mathlib.Nat.{mul-le-mul-right, div-mul-le-self}
 use Rattle.chars.specs.Gather.{gather, upFrom}
 use Rattle.model.specs.Config.{Config, has, within, every, noneIn, fileValid, validOf, hasFile, sizeOf}
-use Rattle.model.specs.State.{History, heldIn}
+use Rattle.model.specs.State.{Files, History, heldIn}
+use Rattle.model.specs.Change.{Change, stays}
 use Rattle.model.specs.Tables.{sendable, sendOf, tableScan, tablesOf}
 use Rattle.model.specs.Calculations.{fitting, valueOf, allOf, pairOf, missingOf, askedOf, calculationsOf}
 use Rattle.model.specs.Control.{Controlled, isOf, takes, selectWhen, operateWhen, resetWhen, selectOf, controlOf}
-use Rattle.model.specs.History.{Told, fileOf, dumps, acknowledges, untold, historyChars, mostOf, toldFrom, agrees, againWhen, historyOf}
+use Rattle.model.specs.History.{Told, fileOf, dumps, acknowledges, untold, historyChars, mostOf, toldFrom, agrees, againWhen, tellOf, historyOf, freedFor}
 use Rattle.model.specs.declared.Hold.{Hold}
 use Rattle.model.specs.declared.Hold.the-variants.{Free, Held, TimedOut}
 use Rattle.model.specs.declared.Master.{Master}
+use Rattle.model.specs.declared.Pending.{Pending}
+use Rattle.model.specs.declared.Pending.the-variants.{NoWrite, Waits}
 use Rattle.model.specs.declared.Memory.{Memory}
 use Rattle.model.specs.declared.Memory.the-variants.{Nothing, Remembered}
 use Rattle.model.specs.declared.Table.{Table}
@@ -39,7 +42,10 @@ use Rattle.inputs.proofs.Fits.{inputs-fit}
 use Rattle.tables.proofs.Fits.{tables-fit}
 use Rattle.calculations.proofs.Fits.{calculations-fit}
 use Rattle.history.specs.Layout.{slot, baseOf, recordsIn, filesIn}
-use Rattle.history.specs.Tell.{cut, toldOn}
+use Rattle.history.specs.Change.{areaAfter, countsAfter}
+use Rattle.history.specs.Tell.{cut, leftIn, toldIn}
+use Rattle.layout.specs.Numbers.{memoryIn}
+use Rattle.layout.specs.Unit.{unitIn, configIn}
 use Rattle.history.proofs.HeldLaws.{take-held, flat-most}
 use Rattle.history.proofs.LayoutLaws.{held-files}
 
@@ -48,6 +54,9 @@ tame h s = record { quiet = λ e. false-true (sym e ∙ h); short = s }
 
 pub mute : {o : Outcome} → Tame o []
 mute = record { quiet = λ e. refl; short = omega arith }
+
+pub bare-tame : {o : Outcome} {ys : List ℕ} → ys ≡ [] → Tame o ys
+bare-tame e = record { quiet = λ _. e; short = rw e (omega arith) }
 
 -- ---- 28h
 
@@ -74,14 +83,51 @@ time-tame k q = by-cond TameScan (counts 0 q) (λ e. tame refl (omega arith)) (�
 -- ---- 20h/11h
 
 TameChange : Changed → Type 0
-TameChange x = Tame (x .outcome) (x .chars)
+TameChange x = Tame (x .says .outcome) (x .says .chars)
 
-pub reset-tame : (table words : List ℕ) (q : Request) → Tame (resetCountOf table words q .outcome) (resetCountOf table words q .chars)
+pub reset-tame : (table words : List ℕ) (q : Request) → Tame (resetCountOf table words q .says .outcome) (resetCountOf table words q .says .chars)
 unfolding TameChange resetCountOf counts answered
 reset-tame table words q =
     by-cond TameChange (eqb (length (q .body)) 1)
     (λ e. by-cond TameChange (hasAccumulator table (getD (q .body) 0 0)) (λ z. tame refl (omega (arith, eqb-true (length (q .body)) 1 e))) (λ z. mute))
     (λ e. mute)
+
+-- ---- 20h/30h, 20h/31h and 20h/38h, which send no data
+
+BareWrite : Written → Type 0
+BareWrite x = x .says .chars ≡ []
+
+write-when-bare : (p : Pending) (m : Master) (bias o : ℕ) → BareWrite (writeWhen p m bias o)
+unfolding BareWrite writeWhen waitsFor
+write-when-bare NoWrite m bias o = refl
+write-when-bare (Waits w) m bias o = by-cond BareWrite (isOf (w .master) m) (λ e. refl) (λ e. refl)
+
+pub write-bare : (p : Pending) (q : Request) → writeOf p q .says .chars ≡ []
+unfolding BareWrite writeOf
+write-bare p q = by-cond BareWrite (counts 3 q) (λ e. write-when-bare p _ _ _) (λ e. refl)
+
+BareExecute : Executed → Type 0
+BareExecute x = x .says .chars ≡ []
+
+execute-when-bare : (p : Pending) (fixed block : List ℕ) (q : Request) → BareExecute (executeWhen p fixed block q)
+unfolding BareExecute executeWhen executes notExecuted
+execute-when-bare NoWrite fixed block q = refl
+execute-when-bare (Waits w) fixed block q =
+    by-cond BareExecute (isOf (w .master) (masterOf (q .address)))
+    (λ e. by-cond BareExecute (reaches fixed block (w .ordinal .0) (w .bias) (length (q .body))) (λ e. refl) (λ e. refl))
+    (λ e. refl)
+
+pub execute-bare : (p : Pending) (fixed block : List ℕ) (q : Request) → executeOf p fixed block q .says .chars ≡ []
+unfolding BareExecute executeOf notExecuted
+execute-bare p fixed block q = by-cond BareExecute (within 1 mostAsked (length (q .body))) (λ e. execute-when-bare p fixed block q) (λ e. refl)
+
+BareTime : Timed → Type 0
+BareTime x = x .says .chars ≡ []
+
+pub set-time-bare : (k : Clock) (q : Request) → setTimeOf k q .says .chars ≡ []
+unfolding BareTime setTimeOf
+set-time-bare k q =
+    by-cond BareTime (counts 7 q) (λ e. by-cond BareTime (digitsFit (q .body) && clockFits (timeIn (q .body))) (λ e. refl) (λ e. refl)) (λ e. refl)
 
 -- ---- functions 00, 03 and 0Ah
 
@@ -138,7 +184,7 @@ tables-tame table fixed words q = tame (tables-says table fixed words q) (tables
 -- ---- 10h
 
 TameControl : Controlled → Type 0
-TameControl x = Tame (x .outcome) (x .chars)
+TameControl x = Tame (x .says .outcome) (x .says .chars)
 
 takes-tame : (m : Master) (n : ℕ) (close : Bool) → TameControl (takes m n close)
 unfolding TameControl takes answered
@@ -167,7 +213,7 @@ unfolding selectOf TameControl
 select-tame table h q close =
     by-cond TameControl (counts 1 q) (λ e. by-cond TameControl (has table (getD (q .body) 0 0)) (λ e. when-tame h _ _ close) (λ e. mute)) (λ e. mute)
 
-pub control-tame : (table : List ℕ) (h : Hold) (q : Request) → Tame (controlOf table h q .outcome) (controlOf table h q .chars)
+pub control-tame : (table : List ℕ) (h : Hold) (q : Request) → Tame (controlOf table h q .says .outcome) (controlOf table h q .says .chars)
 unfolding controlOf TameControl
 control-tame table h q =
     by-cond TameControl (eqb (q .command) 0x10) (λ e. select-tame table h q false)
@@ -178,19 +224,19 @@ control-tame table h q =
 -- ---- 04
 
 TellsAll : Told → Type 0
-TellsAll t = answered (sendingOf (t .outcome)) ≡ true
+TellsAll t = answered (sendingOf (t .says .outcome)) ≡ true
 
-again-says : (w : Memory) (h : History) (q : Request) → TellsAll (againWhen w h q)
+again-says : (w : Memory) (fs : Files) (q : Request) → TellsAll (againWhen w fs q)
 unfolding TellsAll againWhen untold answered
-again-says Nothing h q = refl
-again-says (Remembered t) h q = by-cond TellsAll (agrees t q) (λ e. refl) (λ e. refl)
+again-says Nothing fs q = refl
+again-says (Remembered t) fs q = by-cond TellsAll (agrees t q) (λ e. refl) (λ e. refl)
 
-pub history-says : (files values : List ℕ) (h : History) (q : Request) → answered (sendingOf (historyOf files values h q .outcome)) ≡ true
-unfolding TellsAll historyOf toldFrom untold answered
+pub history-says : (files values : List ℕ) (h : History) (q : Request) → answered (sendingOf (historyOf files values h q .says .outcome)) ≡ true
+unfolding TellsAll historyOf tellOf toldFrom untold answered
 history-says files values h q =
     by-cond TellsAll (ltb (q .command) 128)
     (λ e. by-cond TellsAll (counts 0 q)
-    (λ e. by-cond TellsAll (hasFile files (fileOf q)) (λ e. by-cond TellsAll (acknowledges q) (λ e. refl) (λ e. again-says (h .memory) h q)) (λ e. refl))
+    (λ e. by-cond TellsAll (hasFile files (fileOf q)) (λ e. by-cond TellsAll (acknowledges q) (λ e. refl) (λ e. again-says (h .memory) _ q)) (λ e. refl))
     (λ e. refl))
     (λ e. refl)
 
@@ -228,27 +274,29 @@ module _ (values area held₀ : List ℕ) where
       (omega (arith, flat-most slot size area (baseOf f) (min n (getD held₀ f 0)), mul-le-mul-right size g, most-size values f dump h))
 
   Short : Told → Type 0
-  Short t = length (t .chars) ≤ 511
+  Short t = length (t .says .chars) ≤ 511
 
-  again-short : (w : Memory) (h : History) (q : Request) → h .files ≡ filesIn values area held₀ → fileOf q < 32 → sizeOf values (fileOf q) ≤ 38
-      → Short (againWhen (cut values w) h q)
+  again-short : (w : Memory) (q : Request) → fileOf q < 32 → sizeOf values (fileOf q) ≤ 38 → Short (againWhen (cut values w) (filesIn values area held₀) q)
   unfolding Short againWhen cut untold agrees
-  again-short Nothing h q e k l = omega arith
-  again-short (Remembered t) h q e k l =
+  again-short Nothing q k l = omega arith
+  again-short (Remembered t) q k l =
       by-cond Short (isOf (t .master) (masterOf (q .address)) && (eqb (t .file .0) (fileOf q) && Bool·beq (t .dump) (dumps q)))
       (λ a.
       let z : t .file .0 ≡ fileOf q =
       eqb-true (t .file .0) (fileOf q) (and-left (eqb (t .file .0) (fileOf q)) (Bool·beq (t .dump) (dumps q))
       (and-right (isOf (t .master) (masterOf (q .address))) (eqb (t .file .0) (fileOf q) && Bool·beq (t .dump) (dumps q)) a)) in
       let g : min (t .quantity) (mostOf values (fileOf q) (t .dump)) ≤ mostOf values (fileOf q) (t .dump) = omega arith in
-      rw (e, z) (records-short (fileOf q) (min (t .quantity) (mostOf values (fileOf q) (t .dump))) (t .dump) (t .more) k l g))
+      rw z (records-short (fileOf q) (min (t .quantity) (mostOf values (fileOf q) (t .dump))) (t .dump) (t .more) k l g))
       (λ a. omega arith)
 
-pub told-short : (c : Config) (area held₀ : List ℕ) (w : Memory) (q : Request) → validOf c ≡ true
-    → length (toldOn (c .files) (c .values) w (filesIn (c .values) area held₀) q .chars) ≤ 511
-unfolding Short toldOn toldFrom untold
-told-short c area held₀ w q v =
-    let P : Told → Type 0 = Short (c .values) area held₀ in
+pub told-short : (u area : List ℕ) (q : Request) → validOf (configIn u) ≡ true → length (toldIn u area q .says .chars) ≤ 511
+unfolding Short tellOf toldFrom untold
+told-short u area q v =
+    let c = configIn u in
+    let held : List ℕ = unitIn u .counts in
+    let w : Memory = memoryIn (unitIn u .numbers) in
+    let freed : Change = freedFor w (masterOf (q .address)) in
+    let P : Told → Type 0 = Short (c .values) area held in
     by-cond P (ltb (q .command) 128)
     (λ e. by-cond P (counts 0 q)
     (λ e. by-cond P (hasFile (c .files) (fileOf q))
@@ -257,10 +305,10 @@ told-short c area held₀ w q v =
     let z : sizeOf (c .values) (fileOf q) ≤ 38 = size-fits c (fileOf q) v e in
     by-cond P (acknowledges q)
     (λ e.
-    let rs = heldIn (filesIn (c .values) area held₀) (fileOf q) in
+    let rs = heldIn (leftIn u area freed) (fileOf q) in
     let n : ℕ = min (length rs) (mostOf (c .values) (fileOf q) (dumps q)) in
-    records-short (c .values) area held₀ (fileOf q) n (dumps q) (ltb n (length rs)) l z (omega arith))
-    (λ e. again-short (c .values) area held₀ w (record { memory = w; files = filesIn (c .values) area held₀ }) q refl l z))
+    records-short (c .values) (areaAfter freed held area) (countsAfter freed held) (fileOf q) n (dumps q) (ltb n (length rs)) l z (omega arith))
+    (λ e. again-short (c .values) (areaAfter stays held area) (countsAfter stays held) w q l z))
     (λ e. omega arith))
     (λ e. omega arith))
     (λ e. omega arith)

@@ -7,32 +7,31 @@ use mathlib.Core.Bool.{true}
 use lib.ListN.{length}
 use Rattle.model.specs.Frame.{Request}
 use Rattle.model.specs.History.{historyOf}
+use Rattle.model.specs.Step.{scanned, Stepped, telling}
 use Rattle.model.specs.declared.Action.the-variants.{Rest}
 use Rattle.model.specs.declared.Filled.{Filled}
 use Rattle.layout.specs.Numbers.{memoryIn, portIn, readable}
 use Rattle.history.specs.Layout.{filesIn}
-use Rattle.history.specs.Change.{freedBy, countsAfter}
 use Rattle.history.specs.Tell.{Serves}
-use Rattle.history.proofs.FitsLaws.{serves-told, serves-files, serves-written}
+use Rattle.history.proofs.FitsLaws.{serves-told, serves-shifted, serves-files, serves-written}
 use Rattle.serve.specs.declared.step.Step.{Step}
 use Rattle.layout.specs.Unit.{Unit, unitLong, unitIn, configIn, numbersIn}
 use Rattle.serve.specs.Kept.{areasBy, areasIn, heldIn, innerIn, Steady}
-use Rattle.serve.specs.Changes.{Stepped, telling}
 use Rattle.serve.proofs.TameLaws.{tame, history-says, told-short}
 use Rattle.serve.specs.Promises.{Ready, StepInPromise}
 
 pub acted-told : (u block area : List ℕ) (q : Request) {m : Stepped} (v : List ℕ) {entry exit area′ : List ℕ} (t : Filled) {r : Step}
     → length u ≡ unitLong → Ready u area → readable (numbersIn u) ≡ true → Serves u q area entry t v area′ exit
-    → m ≡ telling (innerIn u block area) (historyOf (configIn u .files) (configIn u .values) (record { memory = memoryIn (numbersIn u); files = heldIn u area }) q) (freedBy (configIn u .files) (memoryIn (numbersIn u)) q)
+    → m ≡ telling (innerIn u block area) (historyOf (configIn u .files) (configIn u .values) (record { memory = memoryIn (numbersIn u); files = heldIn u area }) q)
     → r ≡ record { outcome = t .outcome; action = Rest; count = t .count }
-    → StepInPromise m (areasIn v block) (filesIn (configIn u .values) area′ (unitIn v .counts)) (portIn (numbersIn u)) (numbersIn v) area (unitIn u .counts) area′ (unitIn v .counts) entry exit r
-unfolding telling
-acted-told u block area q v {area′ = area′} t long y stands s z e =
-    let w = serves-told u area (y .valid) (y .fits) (y .room) long s in
-    let f = serves-files u area (y .valid) (y .fits) (y .room) long s in
-    let k = serves-written u area (y .valid) (y .fits) (y .room) long s stands in
-    let n : t .count ≤ 511 =
-    omega (arith, told-short (configIn u) area′ (countsAfter (freedBy (configIn u .files) (memoryIn (numbersIn u)) q) (unitIn u .counts)) (memoryIn (numbersIn u)) q (y .valid), s .told .sent .counted) in
+    → StepInPromise m (areasIn v block) (heldIn u area) (filesIn (configIn u .values) area′ (unitIn v .counts)) (portIn (numbersIn u)) (numbersIn v) area (unitIn u .counts) area′ (unitIn v .counts) entry exit r
+unfolding telling scanned
+acted-told u block area q v t long y stands s z e =
+    let w = serves-told u area (y .valid) (y .fits) (y .room) long q s in
+    let f = serves-files u area (y .valid) (y .fits) (y .room) long q s in
+    let k = serves-written u area (y .valid) (y .fits) (y .room) long q s stands in
+    let ch = serves-shifted u area (y .valid) (y .fits) (y .room) long q s in
+    let n : t .count ≤ 511 = omega (arith, told-short u area q (y .valid), s .told .sent .counted) in
     rw (z, e)
     (record {
       acts = record {
@@ -42,10 +41,10 @@ acted-told u block area q v {area′ = area′} t long y stands s z e =
         written = w .sent .written;
         kept = k;
         areas = ap (λ (x : Unit). areasBy x block) (s .left);
-        files = f;
         tame = tame (history-says (configIn u .files) (configIn u .values) (record { memory = memoryIn (numbersIn u); files = heldIn u area }) q) (omega (arith, w .sent .counted));
       };
-      changed = record { moved = s .moved; counted = ap (λ (x : Unit). x .counts) (s .left) };
+      files = f;
+      changed = record { moved = ch .0; counted = ch .1 };
     })
 
 pub told-steady : (u v : List ℕ) {area entry area′ exit : List ℕ} {q : Request} {t : Filled} → Serves u q area entry t v area′ exit → Steady u v

@@ -8,8 +8,8 @@ use lib.Dec.{eqb}
 use Rattle.chars.specs.Put.{put}
 use Rattle.model.specs.Outcome.{sendingOf, replyFunction, damaged}
 use Rattle.model.specs.Step.{answered}
+use Rattle.model.specs.Port.{markAfter}
 use Rattle.model.specs.declared.Outcome.{Outcome}
-use Rattle.model.specs.declared.Mark.{Mark}
 use Rattle.model.specs.declared.Mark.the-variants.{Fine, Damaged}
 use Rattle.model.specs.declared.Port.{Port}
 use Rattle.model.specs.declared.Reply.{Reply}
@@ -29,17 +29,9 @@ pub record Replies (entry exit : List ℕ) (o : Outcome) (head : Reply) (n : ℕ
   pub counted : n ≡ length (repliedIn entry o head)
   pub written : exit ≡ put entry 0 (repliedIn entry o head)
 
--- the mark after a stretch with this outcome: an answered frame sets 00, damage marks (Frames 13, 14)
-unfoldable pub markBy : Mark → Outcome → Mark
-markBy m o = cond (answered (sendingOf o)) Fine (cond (damaged o) Damaged m)
-
 -- the port after characters with this outcome, which end the silence (Frames 15)
 abbrev pub heardBy : Port → Outcome → Port
-heardBy p o = record { silence = 0; mark = markBy (p .mark) o }
-
--- the port after a stretch s with this outcome: an empty one changes nothing (Frames 15, 16)
-unfoldable pub portBy : Port → List ℕ → Outcome → Port
-portBy p s o = cond (eqb (length s) 0) p (heardBy p o)
+heardBy p o = record { silence = 0; mark = markAfter (p .mark) o }
 
 -- ---- the same in the kept numbers, whatever they are
 

@@ -13,8 +13,9 @@ use Rattle.model.specs.Outcome.{numberOf, sendingOf}
 use Rattle.model.specs.Config.{within, validOf}
 use Rattle.model.specs.Fits.{historyFits}
 use Rattle.model.specs.State.{Areas, Files}
-use Rattle.model.specs.Step.{Step as StepOf, Made, answered, broadcastOf, broadcastMade, served, judged}
-use Rattle.model.specs.Port.{sentChars}
+use Rattle.model.specs.Change.{applied}
+use Rattle.model.specs.Step.{Step as StepOf, Stepped, alone, returnOf, internalStep, stepOf, Made, answered, broadcastOf, broadcastMade, served, judged}
+use Rattle.model.specs.Port.{sentChars, portHeard}
 use Rattle.model.specs.declared.Outcome.{Outcome}
 use Rattle.model.specs.declared.Answer.the-variants.{Ended}
 use Rattle.model.specs.declared.Core.{Core}
@@ -24,10 +25,9 @@ use Rattle.model.specs.declared.Port.{Port}
 use Rattle.layout.specs.Numbers.{coreIn, memoryIn, portIn, readable, Written}
 use Rattle.layout.specs.Unit.{unitIn, configIn, numbersIn, roomOf, NumbersOnly}
 use Rattle.history.specs.Layout.{filesIn}
-use Rattle.history.specs.Change.{Change}
 use Rattle.serve.specs.Kept.{areasIn, heldIn, innerBy, innerIn, Owned, Steady}
-use Rattle.serve.specs.Changes.{Stepped, internalStep, returnStep, stepOf, changeHeard, Shifted}
-use Rattle.serve.specs.Ends.{heardBy, portBy}
+use Rattle.serve.specs.Changes.{Shifted}
+use Rattle.serve.specs.Ends.{heardBy}
 use Rattle.serve.specs.declared.step.Step.{Step}
 use Rattle.serve.specs.declared.Made.{Made as MadeOf}
 
@@ -60,41 +60,41 @@ pub record Tame (o : Outcome) (ys : List ℕ) : Type 0 where
   pub short : length ys ≤ mostData
 
 -- its data stand behind the room for the reply's head, and the numbers are ls, with the port as it was
-pub record StepPromise (m : Stepped) (a : Areas) (fs : Files) (p : Port) (ls entry exit : List ℕ) (r : Step) : Type 0 where
-  pub ended : r .outcome ≡ m .step .outcome
+pub record StepPromise (m : Stepped) (a : Areas) (p : Port) (ls entry exit : List ℕ) (r : Step) : Type 0 where
+  pub ended : r .outcome ≡ m .step .says .outcome
   pub acted : r .action ≡ m .step .action
-  pub counted : r .count ≡ length (m .step .chars)
-  pub written : exit ≡ put entry replyHead (m .step .chars)
-  pub kept : Written (m .step .core) (m .history .memory) p ls
+  pub counted : r .count ≡ length (m .step .says .chars)
+  pub written : exit ≡ put entry replyHead (m .step .says .chars)
+  pub kept : Written (m .step .core) (m .memory) p ls
   pub areas : a ≡ m .step .areas
-  pub files : fs ≡ m .history .files
-  pub tame : Tame (m .step .outcome) (m .step .chars)
+  pub tame : Tame (m .step .says .outcome) (m .step .says .chars)
 
--- the same with the lent characters and counts of the files
-pub record StepInPromise (m : Stepped) (a : Areas) (fs : Files) (p : Port) (ls area counts area′ counts′ entry exit : List ℕ) (r : Step) : Type 0 where
-  pub acts : StepPromise m a fs p ls entry exit r
+-- the same with the files, and with their lent characters and counts
+pub record StepInPromise (m : Stepped) (a : Areas) (fs fs′ : Files) (p : Port) (ls area counts area′ counts′ entry exit : List ℕ) (r : Step) : Type 0 where
+  pub acts : StepPromise m a p ls entry exit r
+  pub files : fs′ ≡ applied (m .change) fs
   pub changed : Shifted (m .change) area counts area′ counts′
 
 -- function 20h, whatever records there are
 abbrev pub InternalPromise : Request → List ℕ → List ℕ → List ℕ → List ℕ → List ℕ → List ℕ → Step → Type 0
 InternalPromise q u block v block′ entry exit r =
     ((fs : Files) → readable (numbersIn u) ≡ true
-    → StepPromise (internalStep (configIn u) (innerBy u block fs) q) (areasIn v block′) fs (portIn (numbersIn u)) (numbersIn v) entry exit r)
+    → StepPromise (internalStep (configIn u) (innerBy u block fs) q) (areasIn v block′) (portIn (numbersIn u)) (numbersIn v) entry exit r)
     × Unshifted u v
 
 -- function 28h, which changes only the buffer
 abbrev pub ReturnedPromise : Request → List ℕ → List ℕ → List ℕ → List ℕ → Step → Type 0
 ReturnedPromise q u block entry exit r =
     (fs : Files) → readable (numbersIn u) ≡ true
-    → StepPromise (returnStep (innerBy u block fs) q) (areasIn u block) fs (portIn (numbersIn u)) (numbersIn u) entry exit r
+    → StepPromise (alone (innerBy u block fs) (returnOf (coreIn (numbersIn u)) (areasIn u block) q)) (areasIn u block) (portIn (numbersIn u)) (numbersIn u) entry exit r
 
 -- any function, of what is owned before and after
 abbrev pub ActPromise : Request → Owned → Owned → List ℕ → List ℕ → Step → Type 0
 ActPromise q x y entry exit r =
     (Ready (x .unit) (x .area) → readable (numbersIn (x .unit)) ≡ true
     → StepInPromise (stepOf (configIn (x .unit)) (innerIn (x .unit) (x .block) (x .area)) q)
-    (areasIn (y .unit) (y .block)) (filesIn (configIn (x .unit) .values) (y .area) (unitIn (y .unit) .counts)) (portIn (numbersIn (x .unit))) (numbersIn (y .unit))
-    (x .area) (unitIn (x .unit) .counts) (y .area) (unitIn (y .unit) .counts) entry exit r)
+    (areasIn (y .unit) (y .block)) (heldIn (x .unit) (x .area)) (filesIn (configIn (x .unit) .values) (y .area) (unitIn (y .unit) .counts))
+    (portIn (numbersIn (x .unit))) (numbersIn (y .unit)) (x .area) (unitIn (x .unit) .counts) (y .area) (unitIn (y .unit) .counts) entry exit r)
     × Steady (x .unit) (y .unit)
 
 -- ---- what was made of a stretch, with its reply sent under a mark
@@ -111,15 +111,15 @@ pub record MadePromise (m : Made) (mark : Mark) (a : Areas) (fs : Files) (p : Po
   pub files : fs ≡ m .inner .history .files
 
 -- the same with the lent characters and counts of the files
-pub record MadeInPromise (m : Made) (ch : Change) (mark : Mark) (a : Areas) (fs : Files) (p : Port) (ls area counts area′ counts′ entry exit : List ℕ) (r : MadeOf) : Type 0 where
+pub record MadeInPromise (m : Made) (mark : Mark) (a : Areas) (fs : Files) (p : Port) (ls area counts area′ counts′ entry exit : List ℕ) (r : MadeOf) : Type 0 where
   pub makes : MadePromise m mark a fs p ls entry exit r
-  pub changed : Shifted ch area counts area′ counts′
+  pub changed : Shifted (m .change) area counts area′ counts′
 
 -- the same of what is owned before and after, where the unit is in range, with the port as it is left
-abbrev pub OwnedPromise : Made → Change → Port → Owned → Owned → List ℕ → List ℕ → MadeOf → Type 0
-OwnedPromise m ch p x y entry exit r =
+abbrev pub OwnedPromise : Made → Port → Owned → Owned → List ℕ → List ℕ → MadeOf → Type 0
+OwnedPromise m p x y entry exit r =
     (Ready (x .unit) (x .area) → readable (numbersIn (x .unit)) ≡ true
-    → MadeInPromise m ch (portIn (numbersIn (x .unit)) .mark) (areasIn (y .unit) (y .block))
+    → MadeInPromise m (portIn (numbersIn (x .unit)) .mark) (areasIn (y .unit) (y .block))
     (filesIn (configIn (x .unit) .values) (y .area) (unitIn (y .unit) .counts)) p (numbersIn (y .unit))
     (x .area) (unitIn (x .unit) .counts) (y .area) (unitIn (y .unit) .counts) entry exit r)
     × Steady (x .unit) (y .unit)
@@ -128,21 +128,19 @@ OwnedPromise m ch p x y entry exit r =
 abbrev pub ServedPromise : Request → Owned → Owned → List ℕ → List ℕ → MadeOf → Type 0
 ServedPromise q x y entry exit r =
     OwnedPromise (served (configIn (x .unit)) (innerIn (x .unit) (x .block) (x .area)) q)
-    (stepOf (configIn (x .unit)) (innerIn (x .unit) (x .block) (x .area)) q .change)
     (heardBy (portIn (numbersIn (x .unit))) (r .outcome)) x y entry exit r
 
 -- any stretch that a working unit hears
 abbrev pub JudgedPromise : List ℕ → Owned → Owned → List ℕ → List ℕ → MadeOf → Type 0
 JudgedPromise s x y entry exit r =
     OwnedPromise (judged (configIn (x .unit)) (innerIn (x .unit) (x .block) (x .area)) s (heardOf s))
-    (changeHeard (configIn (x .unit)) (innerIn (x .unit) (x .block) (x .area)) s (heardOf s))
-    (portBy (portIn (numbersIn (x .unit))) s (r .outcome)) x y entry exit r
+    (portHeard (portIn (numbersIn (x .unit))) s (r .outcome)) x y entry exit r
 
 -- ---- a broadcast
 
 -- what it stirs: it has no data, and the memory stays
 pub record StirPromise (x : StepOf) (a : Areas) (w : Memory) (p : Port) (ls : List ℕ) (o : Outcome) : Type 0 where
-  pub ended : o ≡ x .outcome
+  pub ended : o ≡ x .says .outcome
   pub kept : Written (x .core) w p ls
   pub areas : a ≡ x .areas
 

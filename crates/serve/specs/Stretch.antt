@@ -8,27 +8,31 @@ use lib.Dec.{ltb}
 use Rattle.chars.specs.Put.{put}
 use Rattle.model.specs.Limits.{longestReply}
 use Rattle.model.specs.Config.{Config}
-use Rattle.model.specs.Step.{stretch}
-use Rattle.model.specs.Run.{resultOf, nextOf}
+use Rattle.model.specs.Event.{Event, stretch}
+use Rattle.model.specs.Run.{resultOf, nextOf, changeOf}
 use Rattle.model.specs.declared.Outcome.the-variants.{NotConfigured, BufferShort}
 use Rattle.model.specs.declared.Answer.the-variants.{Ended}
 use Rattle.model.specs.declared.Action.the-variants.{Rest}
 use Rattle.layout.specs.Unit.{configIn}
 use Rattle.serve.specs.declared.Made.{Made}
 use Rattle.serve.specs.Kept.{Kept, stateOf, Owned, keptIn, standing, Steady}
-use Rattle.serve.specs.Changes.{Shifted, changeOf}
+use Rattle.serve.specs.Changes.{Shifted}
+
+-- a stretch s as it comes with a lent buffer
+abbrev pub coming : List ℕ → List ℕ → Event
+coming entry s = stretch (record { room = length entry; chars = s })
 
 -- a stretch that found the unit as k left it as l: what it showed is the definition's result, the buffer holds the reply and is
 -- else as it was, all that is kept is the next state, and every lent character and count of the files is as the change says
 pub record Turns (c : Config) (s : List ℕ) (k l : Kept) (entry exit : List ℕ) (r : Made) : Type 0 where
-  pub answered : Ended (r .outcome) ≡ resultOf c (stateOf c k) (stretch (length entry) s) .answer
-  pub acted : r .action ≡ resultOf c (stateOf c k) (stretch (length entry) s) .action
-  pub counted : r .sent ≡ length (resultOf c (stateOf c k) (stretch (length entry) s) .reply)
+  pub answered : Ended (r .outcome) ≡ resultOf c (stateOf c k) (coming entry s) .answer
+  pub acted : r .action ≡ resultOf c (stateOf c k) (coming entry s) .action
+  pub counted : r .sent ≡ length (resultOf c (stateOf c k) (coming entry s) .reply)
   pub inside : r .sent ≤ length entry
   pub small : r .sent ≤ longestReply
-  pub written : exit ≡ put entry 0 (resultOf c (stateOf c k) (stretch (length entry) s) .reply)
-  pub next : stateOf c l ≡ nextOf c (stateOf c k) (stretch (length entry) s)
-  pub changed : Shifted (changeOf c (stateOf c k) (stretch (length entry) s)) (k .area) (k .counts) (l .area) (l .counts)
+  pub written : exit ≡ put entry 0 (resultOf c (stateOf c k) (coming entry s) .reply)
+  pub next : stateOf c l ≡ nextOf c (stateOf c k) (coming entry s)
+  pub changed : Shifted (changeOf c (stateOf c k) (coming entry s)) (k .area) (k .counts) (l .area) (l .counts)
 
 -- the same of what a caller owns, which is such as a unit writes afterwards and keeps its configuration
 pub record Served (s : List ℕ) (x y : Owned) (entry exit : List ℕ) (r : Made) : Type 0 where

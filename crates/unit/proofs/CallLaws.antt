@@ -7,19 +7,17 @@ use native.Mathlib.Omega.{arith}
 use Rattle.chars.proofs.PutLaws.{take-put-front}
 use Rattle.model.specs.Config.{Config}
 use Rattle.model.proofs.Conditions.{by-cond}
-use Rattle.model.specs.State.{Inner, State}
+use Rattle.model.specs.State.{State}
 use Rattle.model.specs.Fits.{fits}
-use Rattle.model.specs.Step.{Event, stretch, elapsed, setWord, setValue, pulses, store, quiet, elapsedMade, localMade, wordMade, valueMade, storeMade, makeOf}
+use Rattle.model.specs.Event.{Local as LocalEvent, setWord, setValue, pulses, store, Event, stretch, elapsed, local}
+use Rattle.model.specs.Step.{quiet, elapsedMade, localMade, wordMade, valueMade, storeMade, localOf, makeOf}
 use Rattle.model.specs.Port.{sentChars}
-use Rattle.model.specs.Run.{Result, Entry, short, turnedAway, shows, resultOf, entryOf, afterFrom, traceFrom}
-use Rattle.model.specs.declared.Stored.{Stored}
-use Rattle.model.specs.declared.Stored.the-variants.{Kept as KeptRecord, Full, NotEquipped, WrongValues}
+use Rattle.model.specs.Run.{Result, Entry, short, turnedAway, shows, decided, resultOf, entryOf, afterFrom, traceFrom}
 use Rattle.model.specs.declared.Answer.{Answer}
-use Rattle.model.specs.declared.Port.{Port}
 use Rattle.model.specs.declared.Action.the-variants.{Rest}
 use Rattle.serve.specs.Kept.{Kept, stateOf}
 use Rattle.unit.specs.Events.{Heeds}
-use Rattle.serve.specs.Stretch.{Turns}
+use Rattle.serve.specs.Stretch.{coming, Turns}
 use Rattle.unit.specs.Calls.{Local, results, shownBy, answeredBy, Calls, none, heard, heeded}
 use Rattle.serve.specs.declared.Made.{Made}
 
@@ -34,9 +32,9 @@ calls-after c (heeded {es = es} n h cs) = calls-after c cs ∙ ap (λ (s : State
 
 -- the reply is the front of the buffer
 shown-turn : (c : Config) {k l : Kept} {s entry exit : List ℕ} {r : Made} → Turns c s k l entry exit r
-    → shownBy r exit ≡ resultOf c (stateOf c k) (stretch (length entry) s)
+    → shownBy r exit ≡ resultOf c (stateOf c k) (coming entry s)
 shown-turn c {k} {l} {s} {entry} {exit} {r} t =
-    let x = resultOf c (stateOf c k) (stretch (length entry) s) in
+    let x = resultOf c (stateOf c k) (coming entry s) in
     let g : length (x .reply) ≤ length entry = omega (arith, t .counted, t .inside) in
     let e : take (r .sent) exit ≡ x .reply = rw (t .counted, t .written) (take-put-front entry (x .reply) g) in
     λ i. record { answer = t .answered i; action = t .acted i; reply = e i }
@@ -46,24 +44,21 @@ pub record Still (x : Result) : Type 0 where
   pub action : x .action ≡ Rest
   pub reply : x .reply ≡ []
 
-still-stored : (p : Port) (i : Inner) (f : ℕ) (r : List ℕ) (x : Stored) → Still (shows p (storeMade i f r x))
-unfolding shows storeMade quiet sentChars
-still-stored p i f r KeptRecord = record { action = refl; reply = refl }
-still-stored p i f r Full = record { action = refl; reply = refl }
-still-stored p i f r NotEquipped = record { action = refl; reply = refl }
-still-stored p i f r WrongValues = record { action = refl; reply = refl }
+still-local : (c : Config) (s : State) (e : LocalEvent) → Still (shows (s .port) (localOf c (s .inner) e))
+unfolding shows localOf wordMade valueMade localMade storeMade quiet sentChars
+still-local c s (setWord i w) = record { action = refl; reply = refl }
+still-local c s (setValue i v) = record { action = refl; reply = refl }
+still-local c s (pulses i p) = record { action = refl; reply = refl }
+still-local c s (store f t vs) = record { action = refl; reply = refl }
 
 still-shown : (c : Config) (s : State) (e : Event) → Local e → Still (shows (s .port) (makeOf c (s .inner) e))
-unfolding Local shows makeOf elapsedMade wordMade valueMade localMade quiet sentChars
-still-shown c s (stretch room t) n = absurd (n room t refl)
+unfolding Local shows makeOf elapsedMade quiet sentChars
+still-shown c s (stretch t) n = absurd (n t refl)
 still-shown c s (elapsed ms) n = record { action = refl; reply = refl }
-still-shown c s (setWord i w) n = record { action = refl; reply = refl }
-still-shown c s (setValue i v) n = record { action = refl; reply = refl }
-still-shown c s (pulses i p) n = record { action = refl; reply = refl }
-still-shown c s (store f t vs) n = still-stored (s .port) (s .inner) (f .0) _ _
+still-shown c s (local e) n = still-local c s e
 
 still-result : (c : Config) (s : State) (e : Event) → Local e → Still (resultOf c s e)
-unfolding resultOf turnedAway
+unfolding resultOf decided turnedAway
 still-result c s e n =
     by-cond Still (short e) (λ _. record { action = refl; reply = refl })
     (λ _. by-cond Still (fits c s) (λ _. still-shown c s e n) (λ _. record { action = refl; reply = refl }))

@@ -6,7 +6,7 @@ use Prim.Native.Nat.{ℕ}
 use lib.ListN.{length}
 use Rattle.chars.specs.Word.{Characters}
 use Rattle.model.specs.Config.{Config}
-use Rattle.model.specs.Step.{Event}
+use Rattle.model.specs.Event.{Event}
 use Rattle.model.specs.declared.Answer.{Answer}
 use Rattle.model.proofs.Conditions.{by-bool}
 use Rattle.layout.specs.Unit.{unitLong, configIn}

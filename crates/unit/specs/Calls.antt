@@ -2,21 +2,21 @@
 use mathlib.Core.Path.{_≡_}
 use Prim.Native.Nat.{ℕ}
 use mathlib.Core.List.{List, [], _∷_}
-use lib.ListN.{length, take}
+use lib.ListN.{take}
 use Rattle.model.specs.Config.{Config}
-use Rattle.model.specs.Step.{Event, stretch}
+use Rattle.model.specs.Event.{Stretch, Event, stretch}
 use Rattle.model.specs.Run.{Result, Entry}
 use Rattle.model.specs.declared.Answer.{Answer}
 use Rattle.model.specs.declared.Answer.the-variants.{Ended}
 use Rattle.model.specs.declared.Action.the-variants.{Rest}
 use Rattle.serve.specs.Kept.{Kept}
 use Rattle.unit.specs.Events.{Heeds}
-use Rattle.serve.specs.Stretch.{Turns}
+use Rattle.serve.specs.Stretch.{coming, Turns}
 use Rattle.serve.specs.declared.Made.{Made}
 
 -- no stretch: time or a local event
 unfoldable pub Local : Event → Type 0
-Local e = (room : ℕ) (s : List ℕ) → e ≡ stretch room s → ⊥
+Local e = (s : Stretch) → e ≡ stretch s → ⊥
 
 -- what the entries of a trace show
 unfoldable pub results : List Entry → List Result
@@ -35,6 +35,6 @@ answeredBy a = record { answer = a; action = Rest; reply = [] }
 pub data Calls (c : Config) : Kept → List Event → List Result → Kept → Type 0 where
   none : {k : Kept} → Calls c k [] [] k
   heard : {k l m : Kept} {s entry exit : List ℕ} {r : Made} {es : List Event} {xs : List Result}
-      → Turns c s k l entry exit r → Calls c l es xs m → Calls c k (stretch (length entry) s ∷ es) (shownBy r exit ∷ xs) m
+      → Turns c s k l entry exit r → Calls c l es xs m → Calls c k (coming entry s ∷ es) (shownBy r exit ∷ xs) m
   heeded : {k l m : Kept} {e : Event} {a : Answer} {es : List Event} {xs : List Result}
       → Local e → Heeds c e k l a → Calls c l es xs m → Calls c k (e ∷ es) (answeredBy a ∷ xs) m

@@ -1,8 +1,8 @@
 -- `points::changes::reset_count` meets its contract. Assumes nothing.
 use mathlib.Core.Path.{refl, sym, ap, _∙_}
 use Rattle.chars.specs.Put.{put}
+use Rattle.model.specs.Inputs.{Changed}
 use Rattle.model.specs.declared.Outcome.the-variants.{NotValid, WrongCount}
-use Rattle.points.specs.Answer.{replyOf}
 use Rattle.points.proofs.AnswerLaws.{fills-as, resets-refused}
 use Rattle.points.proofs.ChangeLaws.{only, reset-miscounted, reset-missing, reset-done}
 use borrow.Author.Needs.{needs}
@@ -36,7 +36,7 @@ same-length c = search needs
 
 returns-2 : tie.Need-returns-2
 returns-2 c = (
-  fills-as (ap replyOf (reset-done _ _ _ (c .before .before .before .before .before .before .before .before .before .before .if1 .left) (sym (c .before .before .before .before .before .before .before .has-accumulator .ensures) ∙ c .before .before .before .before .before .before .if2 .taken)))
+  fills-as (ap (λ (x : Changed). x .says) (reset-done _ _ _ (c .before .before .before .before .before .before .before .before .before .before .if1 .left) (sym (c .before .before .before .before .before .before .before .has-accumulator .ensures) ∙ c .before .before .before .before .before .before .if2 .taken)))
       (record { ended = refl; counted = sym (c .before .before .before .before .before .before .before .before .before .before .if1 .left); written = c .before .before .put-char .ensures ∙ ap (put _ _) (sym (only _ (c .before .before .before .before .before .before .before .before .before .before .if1 .left))) }),
   c .before .before .before .before .put-word .ensures,
 )

@@ -63,7 +63,7 @@ returns-2 c =
     let done = c .before .set-time .ensures ∙ ap (λ (t : Clock). setOf (setTimeOf t q)) (c .before .before .before .clock-in .ensures) in (
       λ block stands.
           let a = areasIn u block in
-          stirs-time k a _ (broadcast-time (configIn u) k a q (c .before .before .before .before .before .before .if1 .taken) (c .before .before .before .before .before .match .keys2)) (ap (λ (x : Set). x .outcome) done) (c .timed .ensures .0) (rw done at (c .timed .ensures .1 .0 stands)) (numbers-kept u block _ (c .timed .ensures .1 .1)),
+          stirs-time k a _ _ (broadcast-time (configIn u) k a q (c .before .before .before .before .before .before .if1 .taken) (c .before .before .before .before .before .match .keys2)) (ap (λ (x : Set). x .outcome) done) (c .timed .ensures .0) (rw done at (c .timed .ensures .1 .0 stands)) (numbers-kept u block _ (c .timed .ensures .1 .1)),
       unshifted-numbers u _ (c .timed .ensures .1 .1),
     )
 

@@ -15,7 +15,7 @@ use Rattle.layout.specs.Unit.{configIn}
 use Rattle.layout.proofs.UnitLaws.{unit-long}
 use Rattle.serve.specs.Kept.{innerBy}
 use Rattle.serve.proofs.CommandLaws.{internal-initial, internal-reset, internal-write, internal-execute, internal-time, internal-unknown, acts-initial, acts-changed, acts-written, acts-executed, acts-timed, acts-refused, unshifted, unshifted-words, unshifted-fixed, unshifted-numbers, unshifted-then, numbers-kept, numbers-by-words, numbers-by-fixed, words-left, fixed-left, reset-left}
-use Rattle.serve.proofs.TameLaws.{reset-tame}
+use Rattle.serve.proofs.TameLaws.{reset-tame, write-bare, execute-bare, set-time-bare}
 use borrow.Author.Needs.{needs}
 use Rattle.serve.proofs.commands.internal.Statement.{statement}
 use Rattle.serve.proofs.commands.internal.Tie as tie
@@ -98,7 +98,7 @@ returns-3 c =
     let done = subst (λ (w : Pending). WritesAs (writeOf w q) (c .before .write .result)) (c .before .before .before .write-kept .ensures) (c .before .write .ensures) in (
       λ fs stands.
           let i = innerBy (s .args .unit .now) (s .args .block .now) fs in
-          acts-written i _ (internal-write (configIn u) i q (c .before .before .before .before .before .match .keys3)) done refl (c .written .ensures .0) (c .written .ensures .1 .0 stands) (numbers-kept u _ _ (c .written .ensures .1 .1)),
+          acts-written i _ (write-bare _ q) (internal-write (configIn u) i q (c .before .before .before .before .before .match .keys3)) done refl (c .written .ensures .0) (c .written .ensures .1 .0 stands) (numbers-kept u _ _ (c .written .ensures .1 .1)),
       unshifted-numbers u _ (c .written .ensures .1 .1),
     )
 
@@ -117,7 +117,7 @@ returns-4 c =
     let after = c .executed .ensures in (
       λ fs stands.
           let i = innerBy (s .args .unit .now) (s .args .block .now) fs in
-          acts-executed i _ (internal-execute (configIn u) i q (c .before .before .before .before .before .before .before .before .before .match .keys4)) done refl (after .0)
+          acts-executed i _ (execute-bare _ _ _ q) (internal-execute (configIn u) i q (c .before .before .before .before .before .before .before .before .before .match .keys4)) done refl (after .0)
           (rw same at (after .1 .0 (rw same stands))) (numbers-kept _ _ _ (after .1 .1) ∙ fixed-left u _ _ (w .0)),
       unshifted-then u _ _ (unshifted-fixed u _ (w .0) (w .1)) (unshifted-numbers _ _ (after .1 .1)),
     )
@@ -131,7 +131,7 @@ returns-5 c =
     let done = c .before .set-time .ensures ∙ ap (λ (k : Clock). setOf (setTimeOf k q)) (c .before .before .before .clock-in .ensures) in (
       λ fs stands.
           let i = innerBy (s .args .unit .now) (s .args .block .now) fs in
-          acts-timed i (internal-time (configIn u) i q (c .before .before .before .before .before .match .keys5)) (ap (λ (x : Set). x .outcome) done) refl (c .timed .ensures .0) (rw done at (c .timed .ensures .1 .0 stands)) (numbers-kept u _ _ (c .timed .ensures .1 .1)),
+          acts-timed i (set-time-bare _ q) (internal-time (configIn u) i q (c .before .before .before .before .before .match .keys5)) (ap (λ (x : Set). x .outcome) done) refl (c .timed .ensures .0) (rw done at (c .timed .ensures .1 .0 stands)) (numbers-kept u _ _ (c .timed .ensures .1 .1)),
       unshifted-numbers u _ (c .timed .ensures .1 .1),
     )
 

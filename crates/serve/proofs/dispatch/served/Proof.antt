@@ -1,7 +1,7 @@
 -- `serve::dispatch::served` meets its contract. Assumes nothing.
 use mathlib.Core.Path.{refl, _∙_}
 use Rattle.model.specs.Frame.{asked}
-use Rattle.model.specs.Step.{settled}
+use Rattle.model.specs.Step.{settled, finished, served}
 use Rattle.layout.proofs.NumbersLaws.{written-readable}
 use Rattle.layout.specs.Unit.{configIn, numbersIn}
 use Rattle.serve.specs.Kept.{innerIn}
@@ -39,7 +39,7 @@ same-length-3 : tie.Need-same-length-3
 same-length-3 c = search needs
 
 returns : tie.Need-returns
-unfolding settled
+unfolding settled served finished
 returns c =
     let s = c .before .before .before .before .before .before .before .before .before .before .before .before .before .before .before .before .before .before .before .before .before .before .before .before .before in
     let u = s .args .unit .now in
@@ -52,7 +52,7 @@ returns c =
           let a = done .0 y stands in
           let f = rw (c .before .before .before .before .before .before .before .before .before .before .before .before .before .before .before .before .before .before .before .status-in .ensures, c .before .before .before .before .before .before .before .before .before .before .before .before .before .before .before .before .before .port-status-in .ensures ∙ status-numbered ks stands) at (c .before .before .before .before .finish .ensures) in
           makes-renumbered _ _ _ _ (ends .1)
-          (record { makes = makes-served (configIn u) i q _ (s .pre .0) (a .acts) f (ends .0 (written-readable (a .acts .kept))) refl; changed = a .changed }),
+          (record { makes = makes-served (configIn u) i q _ (s .pre .0) (a .acts) (a .files) f (ends .0 (written-readable (a .acts .kept))) refl; changed = a .changed }),
       steady-then _ _ _ (done .1) (unshifted-numbers _ _ (ends .1) .steady),
     )
 

@@ -4,7 +4,7 @@ use Rattle.layout.proofs.UnitLaws.{numbers-left, numbers-only, numbers-on}
 use borrow.Author.Needs.{needs}
 use Rattle.layout.proofs.NumbersLaws.{readable-written}
 use Rattle.layout.proofs.PlaceLaws.{broadcast-written, silence-written, mark-written}
-use Rattle.serve.specs.Ends.{markBy}
+use Rattle.model.specs.Port.{markAfter}
 use Rattle.serve.proofs.EndingLaws.{unanswered-written}
 use Rattle.serve.proofs.ending.settle_line.Statement.{statement}
 use Rattle.serve.proofs.ending.settle_line.Tie as tie
@@ -22,7 +22,7 @@ keep-mark-requires : tie.Need-keep-mark-requires
 keep-mark-requires c κs = search needs
 
 returns : tie.Need-returns
-unfolding markBy
+unfolding markAfter
 returns c =
     let silence = c .before .before .before .before .before .before .keep-silence .ensures in
     let bit = c .before .before .keep-broadcast .ensures in

@@ -1,0 +1,24 @@
+-- What may happen to a unit: a stretch, time, and the local events.
+use Prim.Native.Nat.{ℕ}
+use mathlib.Core.List.{List}
+use Rattle.model.specs.declared.Input.{Input}
+use Rattle.model.specs.declared.SpecialCalculation.{SpecialCalculation}
+use Rattle.model.specs.declared.File.{File}
+
+-- a stretch as it comes: the length of the lent buffer, and its characters (Covers 3; Frames 17)
+pub record Stretch : Type 0 where
+  pub room : ℕ
+  pub chars : List ℕ
+
+-- a word set, a calculation value set, pulses counted, a record stored (Scans 3)
+pub data Local : Type 0 where
+  setWord : Input → ℕ → Local
+  setValue : SpecialCalculation → ℕ → Local
+  pulses : Input → ℕ → Local
+  store : File → ℕ → List ℕ → Local
+
+-- time is in milliseconds (Outcomes 9)
+pub data Event : Type 0 where
+  stretch : Stretch → Event
+  elapsed : ℕ → Event
+  local : Local → Event
