@@ -11,3 +11,4 @@ pub mod Bursts
 pub mod Eights
 pub mod Frame
 pub mod Cases
+pub mod Unique

@@ -1,3 +1,4 @@
 -- The laws that the proofs of this crate cite, and what its contracts leave open: nothing.
 pub mod DataLaws
 pub mod FillLaws
+pub mod Unique

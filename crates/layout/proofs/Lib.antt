@@ -10,3 +10,4 @@ pub mod RangeLaws
 pub mod JudgedLaws
 pub mod MemoryLaws
 pub mod TableLaws
+pub mod Unique

@@ -3,3 +3,4 @@ pub mod Tests
 pub mod WroteLaws
 pub mod ReadLaws
 pub mod ShownLaws
+pub mod Unique

@@ -1,2 +1,3 @@
 -- The laws that the proofs of this crate and of its users cite.
 pub mod PortLaws
+pub mod Unique

@@ -6,6 +6,7 @@ use mathlib.Core.Bool.{true}
 use Prim.Native.Nat.{ℕ}
 use lib.ListN.{length}
 use Rattle.chars.specs.Word.{Characters}
+use Rattle.chars.specs.One.{OneWhere}
 use Rattle.model.specs.Config.{Config}
 use Rattle.model.specs.State.{State}
 use Rattle.model.specs.declared.Outcome.{Outcome}
@@ -18,6 +19,7 @@ use Rattle.serve.specs.Kept.{Kept, stateOf, Owned, keptIn, standing}
 use Rattle.serve.specs.Stretch.{Served, StretchPromise}
 use Rattle.serve.specs.declared.Made.{Made}
 use Rattle.serve.proofs.FitLaws.{stands-readable}
+use Rattle.serve.proofs.line.stretch.Reads as stretch
 
 -- all that is kept follows from the state, and from the lent characters and counts of the files
 pub kept-same : (c : Config) (l m : Kept) → stateOf c l ≡ stateOf c m → l .area ≡ m .area → l .counts ≡ m .counts → l ≡ m
@@ -42,7 +44,7 @@ owned-same y z l m p q a b t c e =
     let u = unit-one (y .unit) (z .unit) l m p q (λ i. record { layout = t i; config = c i; numbers = n i; words = e i .words; values = e i .results; fixed = e i .fixed; counts = e i .counts }) in
     λ i. record { unit = u i; block = e i .block; area = e i .area }
 
-ended-same : (o p : Outcome) → Ended o ≡ Ended p → o ≡ p
+pub ended-same : (o p : Outcome) → Ended o ≡ Ended p → o ≡ p
 ended-same o p e = cc
 
 module _ (s : List ℕ) (x y z : Owned) (entry : List ℕ) {exit exit′ : List ℕ} {r t : Made}
@@ -59,8 +61,25 @@ module _ (s : List ℕ) (x y z : Owned) (entry : List ℕ) {exit exit′ : List 
       )
 
   -- stretch: the result, the buffer, and all that is kept and lent, as a memory that was lent is characters
-  pub one-stretch : StretchPromise s x y entry exit r → StretchPromise s x z entry exit′ t → (r ≡ t) × (exit ≡ exit′) × (y ≡ z)
-  one-stretch a b =
+  pub one-turn : StretchPromise s x y entry exit r → StretchPromise s x z entry exit′ t → (r ≡ t) × (exit ≡ exit′) × (y ≡ z)
+  one-turn a b =
       by-bool (standing x) (λ e. one-served (a .read e) (b .read e))
       (λ e. let u = a .unread e in let v = b .unread e in
       (u .shown ∙ sym (v .shown), u .written ∙ sym (v .written), u .owned ∙ sym (v .owned)))
+
+-- ---- the contract of `stretch`, for a memory that is characters, as long as a unit
+
+pub one-stretch : OneWhere (λ κ a s. (length (a .0 .now) ≡ unitLong) × Characters (s .0 .now)) stretch.Post (λ κ r s. r)
+one-stretch κ a x y s t g h p q = one-turn _ _ _ _ _ (g .0) (g .1) (h .1) p q .0
+
+pub one-stretch-unit : OneWhere (λ κ a s. (length (a .0 .now) ≡ unitLong) × Characters (s .0 .now)) stretch.Post (λ κ r s. s .0 .now)
+one-stretch-unit κ a x y s t g h p q = ap (λ (z : Owned). z .unit) (one-turn _ _ _ _ _ (g .0) (g .1) (h .1) p q .2)
+
+pub one-stretch-block : OneWhere (λ κ a s. (length (a .0 .now) ≡ unitLong) × Characters (s .0 .now)) stretch.Post (λ κ r s. s .1 .0 .now)
+one-stretch-block κ a x y s t g h p q = ap (λ (z : Owned). z .block) (one-turn _ _ _ _ _ (g .0) (g .1) (h .1) p q .2)
+
+pub one-stretch-records : OneWhere (λ κ a s. (length (a .0 .now) ≡ unitLong) × Characters (s .0 .now)) stretch.Post (λ κ r s. s .1 .1 .0 .now)
+one-stretch-records κ a x y s t g h p q = ap (λ (z : Owned). z .area) (one-turn _ _ _ _ _ (g .0) (g .1) (h .1) p q .2)
+
+pub one-stretch-buffer : OneWhere (λ κ a s. (length (a .0 .now) ≡ unitLong) × Characters (s .0 .now)) stretch.Post (λ κ r s. s .1 .1 .1 .0 .now)
+one-stretch-buffer κ a x y s t g h p q = one-turn _ _ _ _ _ (g .0) (g .1) (h .1) p q .1

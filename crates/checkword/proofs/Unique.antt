@@ -1,0 +1,7 @@
+-- Two ends of a call that meet its contract are one: what each public function promises leaves no choice. Assumes nothing.
+use mathlib.Core.Path.{_≡_, sym, ap, _∙_}
+use Rattle.chars.specs.One.{One}
+use Rattle.checkword.proofs.check_word.Reads as check-word
+
+pub one-check-word : One check-word.Post (λ κ r s. r)
+one-check-word κ a x y s t p q = p ∙ sym q
