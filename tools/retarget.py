@@ -5,8 +5,9 @@ usage: tools/retarget.py FROM TO TRIPLE [WORDS...]    FROM has libboard.a for x8
        tools/retarget.py --targets
 
 Of the module's text only this is changed: triple and data layout, which the compiler itself tells of the machine; what was said of x86-64;
-the wish for small code; and that numbers of 8 and 16 bits are returned with nothing above them, as C on most machines expects and on x86-64
-does not. What the module must be for this to mean the same is looked at first (tools/module.py).
+the wish for small code; that numbers of 8 and 16 bits are returned with nothing above them, as C on most machines expects and on x86-64
+does not; and that constant arrays are read-only data (tools/constants.py). What the module must be for this to mean the same is looked at
+first (tools/module.py).
 """
 import hashlib
 import os
@@ -16,6 +17,7 @@ import sys
 import tempfile
 
 sys.dont_write_bytecode = True
+from constants import laid_as_data  # noqa: E402
 from module import Refused, judge  # noqa: E402
 
 # the machines by the first part of their triples, each with what its library is compiled for if nothing else is said
@@ -130,7 +132,8 @@ def retargeted(text, triple, layout, small):
     text = text.replace('"probe-stack"="inline-asm" "target-cpu"="x86-64"', small)
     if triple.startswith('riscv64'):
         text = text.replace('\ndefine noundef i32 @', '\ndefine noundef signext i32 @')  # whatever its sign, that machine says
-    return re.sub(r'^define noundef (i8|i16) @', r'define noundef zeroext \1 @', text, flags=re.M)
+    text = re.sub(r'^define noundef (i8|i16) @', r'define noundef zeroext \1 @', text, flags=re.M)
+    return laid_as_data(text)
 
 
 def compiled(tools, module, text, triple, words, to):
