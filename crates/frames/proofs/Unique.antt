@@ -10,6 +10,8 @@ use Rattle.frames.proofs.fill.Reads as fill
 use Rattle.frames.proofs.reply.Reads as reply
 use Rattle.frames.proofs.outcomes.number.Reads as number
 use Rattle.frames.proofs.outcomes.sending.Reads as sending
+use Rattle.frames.proofs.outcomes.is_answered.Reads as is-answered
+use Rattle.frames.proofs.outcomes.is_damaged.Reads as is-damaged
 use Rattle.frames.proofs.outcomes.reply_function.Reads as reply-function
 
 pub one-unit-of : One unit-of.Post (λ κ r s. r)
@@ -41,6 +43,12 @@ one-number κ a x y s t p q = p ∙ sym q
 
 pub one-sending : One sending.Post (λ κ r s. r)
 one-sending κ a x y s t p q = p ∙ sym q
+
+pub one-is-answered : One is-answered.Post (λ κ r s. r)
+one-is-answered κ a x y s t p q = p ∙ sym q
+
+pub one-is-damaged : One is-damaged.Post (λ κ r s. r)
+one-is-damaged κ a x y s t p q = p ∙ sym q
 
 pub one-reply-function : One reply-function.Post (λ κ r s. r)
 one-reply-function κ a x y s t p q = p ∙ sym q

@@ -2,7 +2,8 @@
 use model::Outcome;
 use model::Sending;
 ghost use mathlib.Core.Path.{_≡_};
-ghost use Rattle.model.specs.Outcome.{numberOf, sendingOf, functionBits, replyFunction};
+ghost use Rattle.model.specs.Outcome.{numberOf, sendingOf, damaged, functionBits, replyFunction};
+ghost use Rattle.model.specs.Step.{answered};
 
 pub fn number(outcome: Outcome) -> u8
     ensures { λ r. ⌜ r ≡ numberOf outcome ⌝ }
@@ -54,6 +55,24 @@ pub fn sending(outcome: Outcome) -> Sending
         Outcome::NotConfigured => Sending::Unanswered,
         Outcome::BufferShort => Sending::Unanswered,
     }
+}
+
+pub fn is_answered(outcome: Outcome) -> bool
+    ensures { λ r. ⌜ r ≡ answered (sendingOf outcome) ⌝ }
+{
+    match sending(outcome) {
+        Sending::Normal => true,
+        Sending::Nop => true,
+        Sending::Rst => true,
+        Sending::Unanswered => false,
+    }
+}
+
+pub fn is_damaged(outcome: Outcome) -> bool
+    ensures { λ r. ⌜ r ≡ damaged outcome ⌝ }
+{
+    let n = number(outcome);
+    n == 1 || n == 2
 }
 
 // The bits that are added to a reply's function.
