@@ -33,7 +33,7 @@ use Rattle.layout.specs.Numbers.{
   memoryNumbers,
   markNumber,
   numbersOf,
-  putPassed,
+  putCore,
   holdIn,
   writeIn,
   replyIn,
@@ -44,7 +44,6 @@ use Rattle.layout.specs.Numbers.{
   portIn,
   same,
   readable,
-  Passed,
   Written,
 }
 
@@ -154,41 +153,28 @@ pub memory-back : (ks : List ℕ) → replyIn (memoryNumbers (memoryIn ks)) ≡ 
 unfolding memoryIn
 memory-back ks = reply-back _
 
--- core and port together
-pub passed : {k : Core} {p : Port} (ks : List ℕ) → length ks ≡ 26
+-- the core
+pub core-back : {k : Core} (ks : List ℕ) → length ks ≡ 26
     → (k .clock .hour < 256) × (k .clock .minute < 256) × (k .clock .second < 256)
-    → holdIn (holdNumbers (k .hold)) ≡ k .hold → writeIn (writeNumbers (k .write)) ≡ k .write → Passed k p ks (putPassed k p ks)
-unfolding firsts clockIn coreIn portIn
-passed {k} {p} ks l t h n =
+    → holdIn (holdNumbers (k .hold)) ≡ k .hold → writeIn (writeNumbers (k .write)) ≡ k .write → coreIn (putCore k ks) ≡ k
+unfolding firsts clockIn coreIn
+core-back {k} ks l t h n =
     rw (all-firsts 26 ks l)
-    (record {
-      plain = refl;
-      core = λ i.
-          record {
-            clock = record {
-              day = k .clock .day;
-              hour = mod-eq-of-lt (t .0) i;
-              minute = mod-eq-of-lt (t .1) i;
-              second = mod-eq-of-lt (t .2) i;
-              ms = k .clock .ms;
-            };
-            hold = h i;
-            write = n i;
-            configure = bit-back (k .configure) i;
-            error = bit-back (k .error) i;
-            broadcast = bit-back (k .broadcast) i;
-          };
-      port = λ i. record { silence = p .silence; mark = mark-back (p .mark) i };
-    })
-
--- and numbers that stood keep their memory
-pub passed-written : {k l : Core} {w : Memory} {p q : Port} {ks ls : List ℕ} → Written k w p ks → Passed l q ks ls → Written l w q ls
-unfolding numbersOf memoryIn
-passed-written s a =
+    (λ i.
     record {
-      plain = a .plain ∙ rw (s .plain);
-      means = record { core = a .core; memory = rw (a .plain, s .plain) (rw (s .plain) at (s .means .memory)); port = a .port };
-    }
+      clock = record {
+        day = k .clock .day;
+        hour = mod-eq-of-lt (t .0) i;
+        minute = mod-eq-of-lt (t .1) i;
+        second = mod-eq-of-lt (t .2) i;
+        ms = k .clock .ms;
+      };
+      hold = h i;
+      write = n i;
+      configure = bit-back (k .configure) i;
+      error = bit-back (k .error) i;
+      broadcast = bit-back (k .broadcast) i;
+    })
 
 -- what was written, is readable
 pub written-readable : {core : Core} {memory : Memory} {port : Port} {ks : List ℕ} → Written core memory port ks → readable ks ≡ true

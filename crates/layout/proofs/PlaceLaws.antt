@@ -1,5 +1,5 @@
 -- One part of numbers that stood written anew: they stand, and mean the same but for that part. Assumes nothing.
-use mathlib.Core.Path.{_≡_, refl}
+use mathlib.Core.Path.{_≡_, refl, _∙_}
 use Prim.Native.Nat.{ℕ, _<_}
 use native.Mathlib.Nat.{mod-eq-of-lt}
 use mathlib.Core.List.{List}
@@ -10,7 +10,6 @@ use Rattle.model.specs.declared.Hold.{Hold}
 use Rattle.model.specs.declared.Pending.{Pending}
 use Rattle.model.specs.declared.Core.{Core}
 use Rattle.model.specs.declared.Memory.{Memory}
-use Rattle.model.specs.declared.Mark.{Mark}
 use Rattle.model.specs.declared.Port.{Port}
 use Rattle.layout.specs.Numbers.{
   holdNumbers,
@@ -24,8 +23,8 @@ use Rattle.layout.specs.Numbers.{
   putConfigure,
   putError,
   putBroadcast,
-  putSilence,
-  putMark,
+  putPort,
+  putCore,
   holdIn,
   writeIn,
   replyIn,
@@ -87,16 +86,16 @@ module _ {k : Core} {w : Memory} {p : Port} {ks : List ℕ} (a : Written k w p k
       let s = rw (a .plain) at (a .means) in
       rw (b .0, a .plain) (record { plain = refl; means = record { core = s .core; memory = b .1; port = s .port } })
 
-  -- the silence
-  pub silence-written : {n : ℕ} → ls ≡ putSilence n ks → Written k w (record { silence = n; mark = p .mark }) ls
+  -- the port
+  pub port-written : {q : Port} → ls ≡ putPort q ks → Written k w q ls
   unfolding numbersOf clockIn coreIn memoryIn portIn
-  silence-written {n} b =
+  port-written {q} b =
       let s = rw (a .plain) at (a .means) in
-      rw (b, a .plain) (record { plain = refl; means = record { core = s .core; memory = s .memory; port = λ i. record { silence = n; mark = s .port i .mark } } })
+      rw (b, a .plain) (record { plain = refl; means = record { core = s .core; memory = s .memory; port = λ i. record { silence = q .silence; mark = mark-back (q .mark) i } } })
 
-  -- the mark
-  pub mark-written : {m : Mark} → ls ≡ putMark m ks → Written k w (record { silence = p .silence; mark = m }) ls
+  -- the core
+  pub core-written : {l : Core} → ls ≡ putCore l ks → coreIn ls ≡ l → Written l w p ls
   unfolding numbersOf clockIn coreIn memoryIn portIn
-  mark-written {m} b =
+  core-written {l} b c =
       let s = rw (a .plain) at (a .means) in
-      rw (b, a .plain) (record { plain = refl; means = record { core = s .core; memory = s .memory; port = λ i. record { silence = s .port i .silence; mark = mark-back m i } } })
+      record { plain = b ∙ rw (a .plain); means = record { core = c; memory = rw (b, a .plain) (s .memory); port = rw (b, a .plain) (s .port) } }

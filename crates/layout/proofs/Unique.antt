@@ -9,7 +9,7 @@ use Rattle.layout.proofs.config.name_unit.Reads as name-unit
 use Rattle.layout.proofs.config.equip_input.Reads as equip-input
 use Rattle.layout.proofs.config.begin.Reads as begin
 use Rattle.layout.proofs.core.core_in.Reads as core-in
-use Rattle.layout.proofs.core.keep_passed.Reads as keep-passed
+use Rattle.layout.proofs.core.keep_core.Reads as keep-core
 use Rattle.layout.proofs.equipment.number_of.Reads as number-of
 use Rattle.layout.proofs.equipment.length_of.Reads as length-of
 use Rattle.layout.proofs.equipment.has_input.Reads as has-input
@@ -32,8 +32,7 @@ use Rattle.layout.proofs.parts.fixed_of.Reads as fixed-of
 use Rattle.layout.proofs.parts.put_fixed.Reads as put-fixed
 use Rattle.layout.proofs.port.mark_at.Reads as mark-at
 use Rattle.layout.proofs.port.port_in.Reads as port-in
-use Rattle.layout.proofs.port.keep_silence.Reads as keep-silence
-use Rattle.layout.proofs.port.keep_mark.Reads as keep-mark
+use Rattle.layout.proofs.port.keep_port.Reads as keep-port
 use Rattle.layout.proofs.select.hold_kept.Reads as hold-kept
 use Rattle.layout.proofs.select.keep_hold.Reads as keep-hold
 use Rattle.layout.proofs.status.configure_in.Reads as configure-in
@@ -63,8 +62,8 @@ one-begin-unit κ a x y s t p q = p ∙ sym q
 pub one-core-in : One core-in.Post (λ κ r s. r)
 one-core-in κ a x y s t p q = p ∙ sym q
 
-pub one-keep-passed-unit : One keep-passed.Post (λ κ r s. unitIn (s .0 .now))
-one-keep-passed-unit κ a x y s t p q = p .0 .means ∙ sym (q .0 .means)
+pub one-keep-core-unit : One keep-core.Post (λ κ r s. unitIn (s .0 .now))
+one-keep-core-unit κ a x y s t p q = p .0 .means ∙ sym (q .0 .means)
 
 pub one-number-of : One number-of.Post (λ κ r s. r)
 one-number-of κ a x y s t p q = p ∙ sym q
@@ -132,11 +131,8 @@ one-mark-at κ a x y s t p q = p ∙ sym q
 pub one-port-in : One port-in.Post (λ κ r s. r)
 one-port-in κ a x y s t p q = p ∙ sym q
 
-pub one-keep-silence-unit : One keep-silence.Post (λ κ r s. unitIn (s .0 .now))
-one-keep-silence-unit κ a x y s t p q = p .means ∙ sym (q .means)
-
-pub one-keep-mark-unit : One keep-mark.Post (λ κ r s. unitIn (s .0 .now))
-one-keep-mark-unit κ a x y s t p q = p .means ∙ sym (q .means)
+pub one-keep-port-unit : One keep-port.Post (λ κ r s. unitIn (s .0 .now))
+one-keep-port-unit κ a x y s t p q = p .means ∙ sym (q .means)
 
 pub one-hold-kept : One hold-kept.Post (λ κ r s. r)
 one-hold-kept κ a x y s t p q = p ∙ sym q

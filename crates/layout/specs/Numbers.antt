@@ -86,17 +86,13 @@ putError on ks = set ks 16 (bitOf on)
 abbrev pub putBroadcast : Bool → List ℕ → List ℕ
 putBroadcast on ks = set ks 17 (bitOf on)
 
-abbrev pub putSilence : ℕ → List ℕ → List ℕ
-putSilence n ks = set ks 24 n
+abbrev pub putPort : Port → List ℕ → List ℕ
+putPort p ks = set (set ks 24 (p .silence)) 25 (markNumber (p .mark))
 
-abbrev pub putMark : Mark → List ℕ → List ℕ
-putMark m ks = set ks 25 (markNumber m)
-
--- core and port: those of the memory stay as they were
-abbrev pub putPassed : Core → Port → List ℕ → List ℕ
-putPassed k p ks =
+abbrev pub putCore : Core → List ℕ → List ℕ
+putCore k ks =
     let ls = putWrite (writeNumbers (k .write)) (putHold (holdNumbers (k .hold)) (putClock (k .clock) ks)) in
-    putMark (p .mark) (putSilence (p .silence) (putBroadcast (k .broadcast) (putError (k .error) (putConfigure (k .configure) ls))))
+    putBroadcast (k .broadcast) (putError (k .error) (putConfigure (k .configure) ls))
 
 -- ---- read: any numbers mean something
 
@@ -177,12 +173,6 @@ pub record Means (ks : List ℕ) (k : Core) (m : Memory) (p : Port) : Type 0 whe
   pub core : coreIn ks ≡ k
   pub memory : memoryIn ks ≡ m
   pub port : portIn ks ≡ p
-
--- core and port written anew, which are read again as they were
-pub record Passed (k : Core) (p : Port) (ks ls : List ℕ) : Type 0 where
-  pub plain : ls ≡ putPassed k p ks
-  pub core : coreIn ls ≡ k
-  pub port : portIn ls ≡ p
 
 -- what is written: the numbers, and that they mean what was written
 pub record Written (k : Core) (m : Memory) (p : Port) (ks : List ℕ) : Type 0 where

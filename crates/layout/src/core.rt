@@ -1,11 +1,9 @@
-// Clock, select, write and status together, and with them the port: what time can change.
+// Clock, select, write and status together.
 use super::UNIT;
 use super::clock::clock_in;
 use super::clock::clock_judged;
 use super::clock::keep_clock;
 use super::numbers::told_long;
-use super::port::keep_mark;
-use super::port::keep_silence;
 use super::port::port_judged;
 use super::select::hold_judged;
 use super::select::hold_kept;
@@ -21,10 +19,9 @@ use super::write::keep_write;
 use super::write::write_judged;
 use super::write::write_kept;
 use model::Core;
-use model::Port;
 ghost use mathlib.Core.Path.{_≡_};
 ghost use Rattle.layout.specs.Unit.{unitIn, configIn, Renumbered};
-ghost use Rattle.layout.specs.Numbers.{coreIn, putPassed, Passed};
+ghost use Rattle.layout.specs.Numbers.{coreIn, putCore};
 ghost use Rattle.layout.specs.Judged.{coreJudged};
 
 pub fn core_in<'a>(unit: &'a [u8; UNIT]) -> Core
@@ -41,9 +38,9 @@ pub fn core_in<'a>(unit: &'a [u8; UNIT]) -> Core
 }
 
 // Part by part to where its numbers lie, by plain values: an array or a struct made first would be put together and copied.
-pub fn keep_passed(unit: &mut [u8; UNIT], core: Core, port: Port)
-    ensures { λ _. ⌜ Renumbered (now (unit .entry)) (now (unit .exit)) (putPassed core port (unitIn (now (unit .entry)) .numbers))
-        × Passed core port (unitIn (now (unit .entry)) .numbers) (unitIn (now (unit .exit)) .numbers) ⌝ }
+pub fn keep_core(unit: &mut [u8; UNIT], core: Core)
+    ensures { λ _. ⌜ Renumbered (now (unit .entry)) (now (unit .exit)) (putCore core (unitIn (now (unit .entry)) .numbers))
+        × (coreIn (unitIn (now (unit .exit)) .numbers) ≡ core) ⌝ }
 {
     told_long(unit);
     let clock = core.clock;
@@ -62,9 +59,6 @@ pub fn keep_passed(unit: &mut [u8; UNIT], core: Core, port: Port)
     keep_configure(unit, core.configure);
     keep_error(unit, core.error);
     keep_broadcast(unit, core.broadcast);
-    let mark = port.mark;
-    keep_silence(unit, port.silence);
-    keep_mark(unit, mark);
 }
 
 pub fn core_judged<'a>(unit: &'a [u8; UNIT]) -> bool

@@ -6,7 +6,7 @@ use model::Mark;
 use model::Port;
 ghost use mathlib.Core.Path.{_≡_};
 ghost use Rattle.layout.specs.Unit.{unitIn, Renumbered};
-ghost use Rattle.layout.specs.Numbers.{markNumber, markIn, markAt, portIn, putSilence, putMark};
+ghost use Rattle.layout.specs.Numbers.{markNumber, markIn, markAt, portIn, putPort};
 ghost use Rattle.layout.specs.Judged.{portJudged};
 
 fn mark_in(x: u16) -> Mark
@@ -46,15 +46,11 @@ fn mark_number(mark: Mark) -> u16
     }
 }
 
-pub fn keep_silence(unit: &mut [u8; UNIT], silence: u16)
-    ensures { λ _. ⌜ Renumbered (now (unit .entry)) (now (unit .exit)) (putSilence silence (unitIn (now (unit .entry)) .numbers)) ⌝ }
+pub fn keep_port(unit: &mut [u8; UNIT], port: Port)
+    ensures { λ _. ⌜ Renumbered (now (unit .entry)) (now (unit .exit)) (putPort port (unitIn (now (unit .entry)) .numbers)) ⌝ }
 {
-    put_kept(unit, 24, silence);
-}
-
-pub fn keep_mark(unit: &mut [u8; UNIT], mark: Mark)
-    ensures { λ _. ⌜ Renumbered (now (unit .entry)) (now (unit .exit)) (putMark mark (unitIn (now (unit .entry)) .numbers)) ⌝ }
-{
+    let mark = port.mark;
+    put_kept(unit, 24, port.silence);
     put_kept(unit, 25, mark_number(mark));
 }
 

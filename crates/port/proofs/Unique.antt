@@ -1,11 +1,12 @@
 -- Two ends of a call that meet its contract are one: what each public function promises leaves no choice. Assumes nothing.
 use mathlib.Core.Path.{_≡_, sym, _∙_}
 use Rattle.chars.specs.One.{One}
-use Rattle.port.proofs.waited_by_value.Reads as waited-by-value
-use Rattle.port.proofs.heard_by_value.Reads as heard-by-value
+use Rattle.layout.specs.Unit.{unitIn}
+use Rattle.port.proofs.wait.Reads as wait
+use Rattle.port.proofs.hear.Reads as hear
 
-pub one-waited-by-value : One waited-by-value.Post (λ κ r s. r)
-one-waited-by-value κ a x y s t p q = p ∙ sym q
+pub one-wait-unit : One wait.Post (λ κ r s. unitIn (s .0 .now))
+one-wait-unit κ a x y s t p q = p .means ∙ sym (q .means)
 
-pub one-heard-by-value : One heard-by-value.Post (λ κ r s. r)
-one-heard-by-value κ a x y s t p q = p ∙ sym q
+pub one-hear-unit : One hear.Post (λ κ r s. unitIn (s .0 .now))
+one-hear-unit κ a x y s t p q = p .means ∙ sym (q .means)

@@ -13,7 +13,7 @@ use Rattle.model.specs.Outcome.{sendingOf}
 use Rattle.model.specs.Config.{Config}
 use Rattle.model.specs.State.{Areas, Files, Inner}
 use Rattle.model.specs.Change.{applied, changedBy}
-use Rattle.model.specs.Step.{Step as StepOf, said, sentAs, answered, statusOf, settled, stepOf, finished, served}
+use Rattle.model.specs.Step.{Step as StepOf, Stepped, said, sentAs, answered, statusOf, settled, stepOf, finished, served}
 use Rattle.model.specs.Port.{portStatus, sentChars}
 use Rattle.model.specs.declared.Outcome.{Outcome}
 use Rattle.model.specs.declared.Core.{Core}
@@ -21,10 +21,12 @@ use Rattle.model.specs.declared.Mark.{Mark}
 use Rattle.model.specs.declared.Reply.{Reply}
 use Rattle.model.specs.declared.Port.{Port}
 use Rattle.model.proofs.Conditions.{by-bool}
-use Rattle.layout.specs.Numbers.{coreIn, memoryIn, portIn, Written}
+use Rattle.layout.specs.Numbers.{coreIn, memoryIn, portIn, putPort, Written}
+use Rattle.layout.proofs.PlaceLaws.{port-written}
+use Rattle.port.specs.Heard.{portHeardBy}
 use Rattle.frames.specs.Framed.{framedIn}
 use Rattle.frames.proofs.FillLaws.{framed-is, framed-long}
-use Rattle.serve.specs.Ends.{headOf, repliedIn, Replies, heardBy}
+use Rattle.serve.specs.Ends.{headOf, repliedIn, Replies}
 use Rattle.serve.proofs.EndingLaws.{saidOf, said-when, silent-when}
 use Rattle.serve.specs.declared.step.Step.{Step}
 use Rattle.serve.specs.declared.Made.{Made as MadeOf}
@@ -73,12 +75,26 @@ module _ (found : Core) (q : Request) (o : Outcome) (mark : Mark) (entry mid exi
   sent-as : (n ≡ length sent) × (exit ≡ put entry 0 sent) × (n ≤ length entry) × (n ≤ longestReply)
   sent-as = by-bool (answered (sendingOf o)) sent-said sent-silent
 
+-- the port by the outcome of what a function made
+pub step-heard : (n : ℕ) {m : Stepped} {a : Areas} {p : Port} {ks ls entry exit : List ℕ} {r : Step} → StepPromise m a p ks entry exit r
+    → ls ≡ putPort (portHeardBy (portIn ks) n (r .outcome)) ks → StepPromise m a (portHeardBy p n (r .outcome)) ls entry exit r
+step-heard n z e =
+    record {
+      ended = z .ended;
+      acted = z .acted;
+      counted = z .counted;
+      written = z .written;
+      kept = rw (z .kept .means .port) at (port-written (z .kept) e);
+      areas = z .areas;
+      tame = z .tame;
+    }
+
 pub makes-served : (c : Config) (i : Inner) (q : Request) (mark : Mark) {areas : Areas} {fs : Files} {p : Port} {ks ls entry mid exit : List ℕ} {r : Step} {x : MadeOf} {n : ℕ}
     → longestReply ≤ length entry → StepPromise (stepOf c i q) areas p ks entry mid r → fs ≡ applied (stepOf c i q .change) (i .history .files)
     → Replies mid exit (r .outcome) (headOf (statusOf (i .core)) (q .address) (q .function) (r .outcome) (r .count) (portStatus mark)) n
-    → Written (settled q (r .outcome) (coreIn ks)) (memoryIn ks) (heardBy (portIn ks) (r .outcome)) ls
+    → Written (settled q (r .outcome) (coreIn ks)) (memoryIn ks) (portIn ks) ls
     → x ≡ record { outcome = r .outcome; action = r .action; sent = n }
-    → MadePromise (served c i q) mark areas fs (heardBy p (x .outcome)) ls entry exit x
+    → MadePromise (served c i q) mark areas fs p ls entry exit x
 unfolding served finished changedBy
 makes-served c i q mark {entry = entry} {mid} {exit} {r} {n = n} l a fl f k e =
     let p : StepOf = stepOf c i q .step in

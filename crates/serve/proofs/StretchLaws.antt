@@ -1,14 +1,14 @@
 -- A stretch: what its parts made, put together. Assumes nothing.
 use native.Mathlib.Omega.{arith}
 use mathlib.Core.Path.{_≡_, refl, sym, ap, _∙_}
-use Prim.Native.Nat.{ℕ, _-_, _≤_, _<_}
+use Prim.Native.Nat.{ℕ, _+_, _-_, _≤_, _<_}
 use mathlib.Core.List.{List}
 use mathlib.Core.Bool.{true, false}
 use lib.ListN.{length}
 use borrow.Author.Tests.{eq-eqb, ne-eqb, lt-ltb, le-ltb}
 use Rattle.chars.specs.Put.{put, part}
 use Rattle.chars.proofs.PutLaws.{put-none}
-use Rattle.model.specs.Limits.{longestReply}
+use Rattle.model.specs.Limits.{shortestFrame, longestReply}
 use Rattle.model.specs.Frame.{asked, unitOf, broadcastUnit, heardOf, requestIn}
 use Rattle.model.specs.Config.{Config}
 use Rattle.model.specs.State.{Areas, Files, Inner}
@@ -24,8 +24,11 @@ use Rattle.model.specs.declared.Mark.{Mark}
 use Rattle.model.specs.declared.Port.{Port}
 use Rattle.model.proofs.Conditions.{false-true, by-bool}
 use Rattle.model.proofs.FrameLaws.{heard-whole}
-use Rattle.layout.specs.Numbers.{portIn, Written}
+use Rattle.layout.specs.Numbers.{portIn, putPort, Written}
 use Rattle.layout.proofs.NumbersLaws.{written-readable}
+use Rattle.layout.proofs.PlaceLaws.{port-written}
+use Rattle.port.specs.Heard.{portHeardBy}
+use Rattle.port.proofs.PortLaws.{heard-as}
 use Rattle.history.specs.Layout.{filesIn}
 use Rattle.history.proofs.LayoutLaws.{length-area}
 use Rattle.layout.specs.Unit.{Renumbered, unitIn, configIn, numbersIn}
@@ -34,8 +37,6 @@ use Rattle.model.proofs.TurnedAway.{short-away, unfit-away, works}
 use Rattle.serve.specs.Kept.{Kept, areasIn, innerOf, stateOf, Owned, keptIn, standing, Steady}
 use Rattle.serve.proofs.FitLaws.{stands-again}
 use Rattle.serve.proofs.KeptLaws.{still, steady-same}
-use Rattle.serve.specs.Ends.{heardBy, heardIn}
-use Rattle.serve.proofs.EndingLaws.{heard-written, port-ended}
 use Rattle.serve.specs.declared.Made.{Made as MadeOf}
 use Rattle.serve.specs.Promises.{MadePromise, MadeInPromise}
 use Rattle.serve.proofs.CommandLaws.{unshifted-numbers, numbers-kept}
@@ -62,12 +63,11 @@ module _ (c : Config) (i : Inner) (s : List ℕ) (mark : Mark) (p : Port) {area 
   module _ (f : Frame) {body : List ℕ} {to : ℕ} (h : heardOf s ≡ Whole f) (b : body ≡ part s 6 (length s - 8)) (u : to ≡ unitOf (f .address)) where
     -- for this unit
     pub judged-own : {a : Areas} {fs : Files} {ls area′ held′ exit : List ℕ} → to ≡ c .unit
-        → MadeInPromise (served c i (asked f body)) mark a fs (heardBy p (x .outcome)) ls area held area′ held′ entry exit x
+        → MadeInPromise (served c i (asked f body)) mark a fs (portHeardBy p (shortestFrame + f .count) (x .outcome)) ls area held area′ held′ entry exit x
         → MadeInPromise (judged c i s (heardOf s)) mark a fs (portHeard p s (x .outcome)) ls area held area′ held′ entry exit x
     unfolding judged framed requestIn
     judged-own t w =
-        let long : length s ≡ 0 → ⊥ = λ e. absurd (omega (arith, heard-whole s f h .short)) in
-        rw (h, eq-eqb (unitOf (f .address)) (c .unit) (sym u ∙ t), ← frame-data s f h b, port-ended p s (x .outcome) long) w
+        rw (h, eq-eqb (unitOf (f .address)) (c .unit) (sym u ∙ t), ← frame-data s f h b, ← (heard-as p s (x .outcome)), heard-whole s f h .count) w
 
     -- for all
     pub judged-all : {a : Areas} {fs : Files} {ls : List ℕ} → (to ≡ c .unit → ⊥) → to ≡ 0x7FF
@@ -146,13 +146,14 @@ module _ (s : List ℕ) (x : Owned) (entry : List ℕ) {r : MadeOf} where
         unread = λ _. record { shown = rw (le-ltb (length entry) longestReply l) e; written = refl; owned = refl };
       }
 
--- what was made of a stretch, and the port marked by it
-pub makes-marked : (s : List ℕ) {m : Made} {mark : Mark} {a : Areas} {fs : Files} {p : Port} {ks ls area held area′ held′ entry exit : List ℕ} {r x : MadeOf}
+-- what was made of a stretch, and the port by its outcome
+makes-marked : (s : List ℕ) {m : Made} {mark : Mark} {a : Areas} {fs : Files} {p : Port} {ks ls area held area′ held′ entry exit : List ℕ} {r x : MadeOf}
     → MadeInPromise m mark a fs p ks area held area′ held′ entry exit r
-    → (x ≡ r) × (ls ≡ heardIn ks s (r .outcome))
+    → (x ≡ r) × (ls ≡ putPort (portHeardBy (portIn ks) (length s) (r .outcome)) ks)
     → MadeInPromise m mark a fs (portHeard p s (x .outcome)) ls area held area′ held′ entry exit x
-makes-marked s v n =
+makes-marked s {p = p} {r = r} v n =
     let z = v .makes in
+    let heard = ap (λ (p : Port). portHeardBy p (length s) (r .outcome)) (z .kept .means .port) ∙ heard-as p s (r .outcome) in
     rw (n .0)
     (record {
       makes = record {
@@ -162,7 +163,7 @@ makes-marked s v n =
         inside = z .inside;
         small = z .small;
         written = z .written;
-        kept = rw (z .kept .means .core, z .kept .means .memory, z .kept .means .port) at (heard-written _ s _ (written-readable (z .kept)) (n .1));
+        kept = rw heard at (port-written (z .kept) (n .1));
         areas = z .areas;
         files = z .files;
       };
@@ -172,7 +173,7 @@ makes-marked s v n =
 -- the same in a unit's memory, of which only numbers are written
 pub unit-marked : (s v w block values : List ℕ) {m : Made} {mark : Mark} {p : Port} {area held area′ entry exit : List ℕ} {r x : MadeOf}
     → MadeInPromise m mark (areasIn v block) (filesIn values area′ (unitIn v .counts)) p (numbersIn v) area held area′ (unitIn v .counts) entry exit r
-    → (x ≡ r) × Renumbered v w (heardIn (numbersIn v) s (r .outcome))
+    → (x ≡ r) × Renumbered v w (putPort (portHeardBy (portIn (numbersIn v)) (length s) (r .outcome)) (numbersIn v))
     → MadeInPromise m mark (areasIn w block) (filesIn values area′ (unitIn w .counts)) (portHeard p s (x .outcome)) (numbersIn w) area held area′ (unitIn w .counts) entry exit x
 unit-marked s v w block values h n =
     let only = numbers-only v w (n .1) in

@@ -25,9 +25,9 @@ use Rattle.model.specs.declared.Port.{Port}
 use Rattle.layout.specs.Numbers.{coreIn, memoryIn, portIn, readable, Written}
 use Rattle.layout.specs.Unit.{unitIn, configIn, numbersIn, roomOf, NumbersOnly}
 use Rattle.history.specs.Layout.{filesIn}
+use Rattle.port.specs.Heard.{portHeardBy}
 use Rattle.serve.specs.Kept.{areasIn, heldIn, innerBy, innerIn, Owned, Steady}
 use Rattle.serve.specs.Changes.{Shifted}
-use Rattle.serve.specs.Ends.{heardBy}
 use Rattle.serve.specs.declared.step.Step.{Step}
 use Rattle.serve.specs.declared.Made.{Made as MadeOf}
 
@@ -124,11 +124,11 @@ OwnedPromise m p x y entry exit r =
     (x .area) (unitIn (x .unit) .counts) (y .area) (unitIn (y .unit) .counts) entry exit r)
     × Steady (x .unit) (y .unit)
 
--- a frame for this unit
-abbrev pub ServedPromise : Request → Owned → Owned → List ℕ → List ℕ → MadeOf → Type 0
-ServedPromise q x y entry exit r =
+-- a frame for this unit, in a stretch of n characters
+abbrev pub ServedPromise : Request → ℕ → Owned → Owned → List ℕ → List ℕ → MadeOf → Type 0
+ServedPromise q n x y entry exit r =
     OwnedPromise (served (configIn (x .unit)) (innerIn (x .unit) (x .block) (x .area)) q)
-    (heardBy (portIn (numbersIn (x .unit))) (r .outcome)) x y entry exit r
+    (portHeardBy (portIn (numbersIn (x .unit))) n (r .outcome)) x y entry exit r
 
 -- any stretch that a working unit hears
 abbrev pub JudgedPromise : List ℕ → Owned → Owned → List ℕ → List ℕ → MadeOf → Type 0

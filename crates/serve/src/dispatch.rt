@@ -19,9 +19,9 @@ use model::Hold;
 use model::Outcome;
 ghost use mathlib.Core.Path.{_≡_};
 ghost use mathlib.Core.Bool.{true, cond};
-ghost use Prim.Native.Nat.{_≤_};
+ghost use Prim.Native.Nat.{_+_, _≤_};
 ghost use lib.ListN.{length};
-ghost use Rattle.model.specs.Limits.{longestReply};
+ghost use Rattle.model.specs.Limits.{shortestFrame, longestReply};
 ghost use Rattle.model.specs.Frame.{asked};
 ghost use Rattle.model.specs.Clock.{clockFits};
 ghost use Rattle.model.specs.Step.{withHold};
@@ -99,7 +99,7 @@ fn act<'a>(
     }
 }
 
-// The status and the mark are sent as the frame found them.
+// The status and the mark are sent as the frame found them; the port goes by the outcome.
 pub fn served<'a>(
     unit: &mut [u8; UNIT],
     block: &mut [u8],
@@ -109,7 +109,7 @@ pub fn served<'a>(
     body: &'a [u8],
 ) -> Made
     requires { ⌜ (longestReply ≤ length (now buffer)) × (clockFits (coreIn (numbersIn (now unit)) .clock) ≡ true) ⌝ }
-    ensures { λ r. ⌜ ServedPromise (asked frame (now (body .entry)))
+    ensures { λ r. ⌜ ServedPromise (asked frame (now (body .entry))) (shortestFrame + frame .count)
         (ownedOf (now (unit .entry)) (now (block .entry)) (now (records .entry)))
         (ownedOf (now (unit .exit)) (now (block .exit)) (now (records .exit))) (now (buffer .entry)) (now (buffer .exit)) r ⌝ }
 {
@@ -118,6 +118,7 @@ pub fn served<'a>(
     let step = act(unit, block, records, buffer, frame, body);
     let outcome = step.outcome;
     let action = step.action;
+    port::hear(unit, Frame::SHORTEST + frame.count as usize, outcome);
     let sent = finish(status, frame, outcome, step.count, port, buffer);
     settle(unit, frame, outcome);
     Made {

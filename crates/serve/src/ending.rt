@@ -1,26 +1,22 @@
-// How every stretch ends, whatever its function was: the reply laid round its data, the core settled, the port marked, the kept numbers
-// of each where they lie.
+// How every frame for this unit ends, whatever its function was: the reply laid round its data, and the core settled, its kept numbers
+// where they lie.
 use super::Made;
+use frames::outcomes::is_answered;
 use frames::outcomes::number;
 use frames::outcomes::reply_function;
-use frames::outcomes::sending;
 use layout::UNIT;
 use layout::broadcast_in;
 use layout::configure_in;
 use layout::error_in;
 use layout::keep_broadcast;
-use layout::keep_mark;
-use layout::keep_silence;
 use layout::keep_write;
 use layout::mark_at;
 use layout::write_kept;
 use model::Action;
 use model::Frame;
-use model::Mark;
 use model::Outcome;
 use model::Pending;
 use model::Reply;
-use model::Sending;
 ghost use mathlib.Core.Path.{_≡_};
 ghost use mathlib.Core.List.{[]};
 ghost use mathlib.Core.Bool.{false, cond};
@@ -28,23 +24,12 @@ ghost use Prim.Native.Nat.{_≤_};
 ghost use lib.Dec.{eqb};
 ghost use Rattle.model.specs.Frame.{asked, masterOf};
 ghost use Rattle.model.specs.Blocks.{dropped};
-ghost use Rattle.model.specs.Outcome.{numberOf, sendingOf, damaged};
+ghost use Rattle.model.specs.Outcome.{numberOf, sendingOf};
 ghost use Rattle.model.specs.Step.{answered, statusOf, withWrite, withBroadcast, settled};
 ghost use Rattle.layout.specs.Numbers.{coreIn, memoryIn, portIn};
-ghost use Rattle.layout.specs.Unit.{numbersIn, Renumbered};
-ghost use Rattle.serve.specs.Ends.{Replies, headOf, heardBy, statusAt, unansweredIn, heardIn};
+ghost use Rattle.layout.specs.Unit.{numbersIn};
+ghost use Rattle.serve.specs.Ends.{Replies, headOf, statusAt};
 ghost use Rattle.serve.specs.Promises.{NumbersPromise};
-
-fn is_answered(outcome: Outcome) -> bool
-    ensures { λ r. ⌜ r ≡ answered (sendingOf outcome) ⌝ }
-{
-    match sending(outcome) {
-        Sending::Normal => true,
-        Sending::Nop => true,
-        Sending::Rst => true,
-        Sending::Unanswered => false,
-    }
-}
 
 // ---- the reply
 
@@ -132,61 +117,21 @@ fn settle_write(unit: &mut [u8; UNIT], frame: Frame, outcome: Outcome)
     }
 }
 
-// ---- the port
-
-fn is_damaged(outcome: Outcome) -> bool
-    ensures { λ r. ⌜ r ≡ damaged outcome ⌝ }
-{
-    let n = number(outcome);
-    n == 1 || n == 2
-}
-
-// The mark that the outcome leaves is not written again.
-fn mark_unanswered(unit: &mut [u8; UNIT], outcome: Outcome)
-    ensures { λ _. ⌜ Renumbered (now (unit .entry)) (now (unit .exit)) (unansweredIn (numbersIn (now (unit .entry))) outcome) ⌝ }
-{
-    if is_damaged(outcome) {
-        keep_mark(unit, Mark::Damaged);
-    }
-}
-
-// An empty stretch leaves all.
-pub fn mark_port(unit: &mut [u8; UNIT], s: &[u8], ended: Outcome)
-    ensures { λ _. ⌜ Renumbered (now (unit .entry)) (now (unit .exit)) (heardIn (numbersIn (now (unit .entry))) (now (s .entry)) ended) ⌝ }
-{
-    if s.len() == 0 {
-        return;
-    }
-    keep_silence(unit, 0);
-    if is_answered(ended) {
-        keep_mark(unit, Mark::Fine);
-        return;
-    }
-    mark_unanswered(unit, ended);
-}
-
-// ---- a frame for this unit
-
-// A reply clears bit 2 and the mark.
-fn settle_line(unit: &mut [u8; UNIT], outcome: Outcome)
+// A reply clears bit 2.
+fn settle_broadcast(unit: &mut [u8; UNIT], outcome: Outcome)
     ensures { λ _. ⌜ NumbersPromise (now (unit .entry)) (now (unit .exit))
         (withBroadcast (coreIn (numbersIn (now (unit .entry)))) (cond (answered (sendingOf outcome)) false (coreIn (numbersIn (now (unit .entry))) .broadcast)))
-        (memoryIn (numbersIn (now (unit .entry)))) (heardBy (portIn (numbersIn (now (unit .entry)))) outcome) ⌝ }
+        (memoryIn (numbersIn (now (unit .entry)))) (portIn (numbersIn (now (unit .entry)))) ⌝ }
 {
-    keep_silence(unit, 0);
     if is_answered(outcome) {
         keep_broadcast(unit, false);
-        keep_mark(unit, Mark::Fine);
-        return;
     }
-    mark_unanswered(unit, outcome);
 }
 
-// Whether there was a reply is asked once, for bit 2 and for the port.
 pub fn settle(unit: &mut [u8; UNIT], frame: Frame, outcome: Outcome)
     ensures { λ _. ⌜ NumbersPromise (now (unit .entry)) (now (unit .exit))
-        (settled (asked frame []) outcome (coreIn (numbersIn (now (unit .entry))))) (memoryIn (numbersIn (now (unit .entry)))) (heardBy (portIn (numbersIn (now (unit .entry)))) outcome) ⌝ }
+        (settled (asked frame []) outcome (coreIn (numbersIn (now (unit .entry))))) (memoryIn (numbersIn (now (unit .entry)))) (portIn (numbersIn (now (unit .entry)))) ⌝ }
 {
     settle_write(unit, frame, outcome);
-    settle_line(unit, outcome);
+    settle_broadcast(unit, outcome);
 }

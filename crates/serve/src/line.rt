@@ -2,7 +2,6 @@
 use super::Made;
 use super::broadcast::broadcast;
 use super::dispatch::served;
-use super::ending::mark_port;
 use super::ending::quiet;
 use layout::UNIT;
 use layout::number_of;
@@ -16,8 +15,8 @@ ghost use lib.ListN.{length};
 ghost use Rattle.model.specs.Limits.{longestReply};
 ghost use Rattle.model.specs.Clock.{clockFits};
 ghost use Rattle.layout.specs.Unit.{numbersIn, Renumbered};
-ghost use Rattle.layout.specs.Numbers.{coreIn};
-ghost use Rattle.serve.specs.Ends.{heardIn};
+ghost use Rattle.layout.specs.Numbers.{coreIn, portIn, putPort};
+ghost use Rattle.port.specs.Heard.{portHeardBy};
 ghost use Rattle.serve.specs.Kept.{ownedOf};
 ghost use Rattle.serve.specs.Promises.{JudgedPromise};
 ghost use Rattle.serve.specs.Stretch.{StretchPromise};
@@ -28,10 +27,11 @@ const ALL: u16 = 0x7FF;
 // What is not for this unit leaves its mark on the port.
 fn marked(unit: &mut [u8; UNIT], s: &[u8], made: Made) -> Made
     ensures { λ r. ⌜ (r ≡ made)
-        × Renumbered (now (unit .entry)) (now (unit .exit)) (heardIn (numbersIn (now (unit .entry))) (now (s .entry)) (made .outcome)) ⌝ }
+        × Renumbered (now (unit .entry)) (now (unit .exit))
+        (putPort (portHeardBy (portIn (numbersIn (now (unit .entry)))) (length (now (s .entry))) (made .outcome)) (numbersIn (now (unit .entry)))) ⌝ }
 {
     let outcome = made.outcome;
-    mark_port(unit, s, outcome);
+    port::hear(unit, s.len(), outcome);
     made
 }
 

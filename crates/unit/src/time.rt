@@ -1,8 +1,7 @@
 // Time, over all that a unit's owner lends: turned away, or what the definition's step says.
 use layout::UNIT;
 use layout::core_in;
-use layout::keep_passed;
-use layout::port_in;
+use layout::keep_core;
 use model::Answer;
 use model::Core;
 use model::Outcome;
@@ -10,9 +9,10 @@ ghost use mathlib.Core.Path.{_≡_};
 ghost use Rattle.model.specs.Port.{silentAfter};
 ghost use Rattle.model.specs.Event.{elapsed};
 ghost use Rattle.model.specs.Step.{coreAfter};
-ghost use Rattle.layout.specs.Numbers.{coreIn, portIn, putPassed, Passed};
-ghost use Rattle.layout.specs.Unit.{numbersIn, Renumbered};
+ghost use Rattle.layout.specs.Numbers.{coreIn, memoryIn, portIn};
+ghost use Rattle.layout.specs.Unit.{numbersIn};
 ghost use Rattle.serve.specs.Kept.{ownedOf};
+ghost use Rattle.serve.specs.Promises.{NumbersPromise};
 ghost use Rattle.unit.specs.Events.{EventPromise};
 
 fn core_after(core: Core, ms: u32) -> Core
@@ -33,14 +33,12 @@ fn core_after(core: Core, ms: u32) -> Core
 
 // Time moves clock, select, write and port.
 fn pass(unit: &mut [u8; UNIT], ms: u32)
-    ensures { λ _. ⌜ Renumbered (now (unit .entry)) (now (unit .exit))
-        (putPassed (coreAfter (coreIn (numbersIn (now (unit .entry)))) ms) (silentAfter (portIn (numbersIn (now (unit .entry)))) ms) (numbersIn (now (unit .entry)))) ⌝ }
-    ensures { λ _. ⌜ Passed (coreAfter (coreIn (numbersIn (now (unit .entry)))) ms) (silentAfter (portIn (numbersIn (now (unit .entry)))) ms)
-        (numbersIn (now (unit .entry))) (numbersIn (now (unit .exit))) ⌝ }
+    ensures { λ _. ⌜ NumbersPromise (now (unit .entry)) (now (unit .exit))
+        (coreAfter (coreIn (numbersIn (now (unit .entry)))) ms) (memoryIn (numbersIn (now (unit .entry)))) (silentAfter (portIn (numbersIn (now (unit .entry)))) ms) ⌝ }
 {
     let core = core_in(unit);
-    let port = port_in(unit);
-    keep_passed(unit, core_after(core, ms), port::waited_by_value(port, ms));
+    keep_core(unit, core_after(core, ms));
+    port::wait(unit, ms);
 }
 
 pub fn elapsed<'a>(unit: &mut [u8; UNIT], block: &'a [u8], records: &'a [u8], ms: u32) -> Outcome

@@ -4,12 +4,13 @@ use Rattle.model.specs.Frame.{asked}
 use Rattle.model.specs.Step.{settled, finished, served}
 use Rattle.layout.proofs.NumbersLaws.{written-readable}
 use Rattle.layout.specs.Unit.{configIn, numbersIn}
+use Rattle.layout.proofs.UnitLaws.{numbers-left, numbers-only, numbers-on}
 use Rattle.serve.specs.Kept.{innerIn}
 use Rattle.serve.proofs.CommandLaws.{unshifted-numbers}
 use Rattle.serve.proofs.EndingLaws.{status-numbered}
 use Rattle.serve.proofs.KeptLaws.{steady-then}
 use Rattle.serve.proofs.StepLaws.{makes-renumbered}
-use Rattle.serve.proofs.ServedLaws.{makes-served}
+use Rattle.serve.proofs.ServedLaws.{step-heard, makes-served}
 use borrow.Author.Needs.{needs}
 use Rattle.serve.proofs.dispatch.served.Statement.{statement}
 use Rattle.serve.proofs.dispatch.served.Tie as tie
@@ -22,6 +23,15 @@ port-status-in-requires c κs = search needs
 
 act-requires : tie.Need-act-requires
 act-requires c κs = search needs
+
+cast-hear : tie.Need-cast-hear
+cast-hear c = search needs
+
+add-hear : tie.Need-add-hear
+add-hear c = search needs
+
+hear-requires : tie.Need-hear-requires
+hear-requires c κs = search needs
 
 finish-requires : tie.Need-finish-requires
 finish-requires c κs = search needs
@@ -41,19 +51,22 @@ same-length-3 c = search needs
 returns : tie.Need-returns
 unfolding settled served finished
 returns c =
-    let s = c .before .before .before .before .before .before .before .before .before .before .before .before .before .before .before .before .before .before .before .before .before .before .before .before .before in
+    let s = c .before .before .before .before .before .before .before .before .before .before .before .before .before .before .before .before .before .before .before .before .before .before .before .before .before .before .before .before in
     let u = s .args .unit .now in
     let ks = numbersIn u in
     let i = innerIn u (s .args .block .now) (s .args .records .now) in
     let q = asked (s .args .frame) (s .args .body .now) in
-    let done = c .before .before .before .before .before .before .before .before .before .before .before .before .act .ensures in
-    let ends = c .settle .ensures in (
+    let done = c .before .before .before .before .before .before .before .before .before .before .before .before .before .before .before .act .ensures in
+    let heard = c .before .before .before .before .before .before .hear .ensures in
+    let ends = c .settle .ensures in
+    let only = numbers-on _ _ _ (numbers-only _ _ heard) (ends .1) in (
       λ y stands.
           let a = done .0 y stands in
-          let f = rw (c .before .before .before .before .before .before .before .before .before .before .before .before .before .before .before .before .before .before .before .status-in .ensures, c .before .before .before .before .before .before .before .before .before .before .before .before .before .before .before .before .before .port-status-in .ensures ∙ status-numbered ks stands) at (c .before .before .before .before .finish .ensures) in
-          makes-renumbered _ _ _ _ (ends .1)
-          (record { makes = makes-served (configIn u) i q _ (s .pre .0) (a .acts) (a .files) f (ends .0 (written-readable (a .acts .kept))) refl; changed = a .changed }),
-      steady-then _ _ _ (done .1) (unshifted-numbers _ _ (ends .1) .steady),
+          let h = step-heard _ (a .acts) (numbers-left _ _ heard) in
+          let f = rw (c .before .before .before .before .before .before .before .before .before .before .before .before .before .before .before .before .before .before .before .before .before .before .status-in .ensures, c .before .before .before .before .before .before .before .before .before .before .before .before .before .before .before .before .before .before .before .before .port-status-in .ensures ∙ status-numbered ks stands) at (c .before .before .before .before .finish .ensures) in
+          makes-renumbered _ _ _ _ only
+          (record { makes = makes-served (configIn u) i q _ (s .pre .0) h (a .files) f (ends .0 (written-readable (h .kept))) refl; changed = a .changed }),
+      steady-then _ _ _ (done .1) (unshifted-numbers _ _ only .steady),
     )
 
 pub served-spec : {M : Type 1} → statement M
@@ -63,6 +76,9 @@ served-spec =
     status-in-requires
     port-status-in-requires
     act-requires
+    cast-hear
+    add-hear
+    hear-requires
     finish-requires
     settle-requires
     same-length

@@ -1,12 +1,12 @@
--- `port::waited_by_value` meets its contract. Assumes nothing.
+-- `port::silent_after` meets its contract. Assumes nothing.
 use mathlib.Core.Path.{_≡_}
 use Prim.Native.Nat.{_+_, _≤_, _<_, min}
 use native.Mathlib.Omega.{arith}
 use borrow.Author.Tests.{le-leb, lt-leb}
 use Rattle.model.specs.Port.{silentAfter}
 use borrow.Author.Needs.{needs}
-use Rattle.port.proofs.waited_by_value.Statement.{statement}
-use Rattle.port.proofs.waited_by_value.Tie as tie
+use Rattle.port.proofs.silent_after.Statement.{statement}
+use Rattle.port.proofs.silent_after.Tie as tie
 
 cast-t : tie.Need-cast-t
 cast-t c = search needs
@@ -34,5 +34,5 @@ returns-2 c =
     let e : min 60000 (c .before .before .args .port .silence + c .before .before .args .ms) ≡ c .before .before .args .port .silence + c .before .before .args .ms = omega arith in
     rw (lt-leb 60000 _ h, e)
 
-pub waited-by-value-spec : {M : Type 1} → statement M
-waited-by-value-spec = tie.close (tie.spec cast-t add-t cast-if1 returns cast-t9 returns-2)
+pub silent-after-spec : {M : Type 1} → statement M
+silent-after-spec = tie.close (tie.spec cast-t add-t cast-if1 returns cast-t9 returns-2)
