@@ -11,7 +11,7 @@ use Rattle.model.specs.Damage.{Damaged, AlikeEntry, AlikeTrace, none, more}
 use Rattle.model.proofs.Damage.{damage, after-append, trace-append}
 use Rattle.model.proofs.Demand3.{demand-3}
 use Rattle.layout.specs.Unit.{configIn, configGiven}
-use Rattle.serve.specs.Kept.{Kept, Owned, keptIn, stateOf}
+use Rattle.layout.specs.Kept.{Kept, Owned, keptIn, stateOf}
 use Rattle.unit.specs.Calls.{results}
 use Rattle.board.specs.Told.{actionNumber, outputNumber}
 use Rattle.board.specs.Runs.{Shown, numbered}

@@ -20,8 +20,9 @@ use Rattle.model.specs.declared.Stored.the-variants.{Kept as KeptRecord, Full, 
 use Rattle.model.proofs.Conditions.{by-bool}
 use Rattle.model.proofs.TurnedAway.{short-away, works, made-row}
 use Rattle.model.proofs.Valid.{fresh-fits, step-fits}
-use Rattle.layout.specs.Unit.{configIn, configGiven, roomOf}
-use Rattle.serve.specs.Kept.{Kept, stateOf, Owned, ownedOf, keptIn, standing}
+use Rattle.layout.specs.Unit.{configIn, configGiven}
+use Rattle.layout.specs.Records.{roomOf}
+use Rattle.layout.specs.Kept.{Kept, stateOf, Owned, ownedOf, keptIn, standing}
 use Rattle.unit.specs.Fresh.{FreshPromise}
 use Rattle.unit.specs.Calls.{results as resultsOf, Calls, none as noCalls, heard as heardCall, heeded as heededCall}
 use Rattle.unit.proofs.FreshLaws.{laid-config, laid-state, laid-stands}

@@ -9,7 +9,7 @@ use Rattle.chars.specs.One.{One, OneWhere}
 use Rattle.model.specs.Outcome.{numberOf, answerNumber}
 use Rattle.model.specs.Event.{Event}
 use Rattle.layout.specs.Unit.{unitLong}
-use Rattle.serve.specs.Kept.{Owned}
+use Rattle.layout.specs.Kept.{Owned}
 use Rattle.serve.proofs.Unique.{one-turn}
 use Rattle.unit.proofs.Unique.{one-event, one-laid}
 use Rattle.serve.specs.declared.Made.{Made}

@@ -14,7 +14,8 @@ use Rattle.model.proofs.Conditions.{by-bool}
 use Rattle.model.proofs.Valid.{fresh-fits}
 use Rattle.layout.specs.Numbers.{numbersOf, coreIn, memoryIn, portIn, readable}
 use Rattle.layout.proofs.NumbersLaws.{written-readable}
-use Rattle.layout.specs.Unit.{Unit, unitIn, configIn, numbersIn, configGiven, roomOf}
+use Rattle.layout.specs.Unit.{Unit, unitIn, configIn, numbersIn, configGiven}
+use Rattle.layout.specs.Records.{roomOf}
 use Rattle.layout.specs.Judged.{fitsBy, fitsIn}
 use Rattle.layout.proofs.JudgedLaws.{fits-by}
 use Rattle.unit.specs.Fresh.{FreshPromise}

@@ -12,8 +12,9 @@ use Rattle.model.specs.Formed.{AllGiven}
 use Rattle.model.specs.Line.{shown, releasedBy, storedBy, storedIn, latestIn, releasedIn}
 use Rattle.model.specs.Damage.{Damaged, Alike}
 use Rattle.model.specs.Demand3.{Acknowledged, rememberedAs}
-use Rattle.layout.specs.Unit.{configIn, configGiven, roomOf}
-use Rattle.serve.specs.Kept.{Owned, ownedOf, keptIn, stateOf}
+use Rattle.layout.specs.Unit.{configIn, configGiven}
+use Rattle.layout.specs.Records.{roomOf}
+use Rattle.layout.specs.Kept.{Owned, ownedOf, keptIn, stateOf}
 use Rattle.unit.specs.Fresh.{FreshPromise}
 use Rattle.unit.specs.Calls.{results}
 use Rattle.board.specs.Runs.{Shown, numbered, Runs, Taken}

@@ -10,7 +10,7 @@ use Rattle.model.specs.Event.{Event}
 use Rattle.model.specs.Run.{Result}
 use Rattle.model.specs.declared.Outcome.the-variants.{NotConfigured}
 use Rattle.layout.specs.Unit.{configIn}
-use Rattle.serve.specs.Kept.{Owned, keptIn, standing, Steady}
+use Rattle.layout.specs.Kept.{Owned, keptIn, standing, Steady}
 use Rattle.serve.specs.Stretch.{coming}
 use Rattle.unit.specs.Calls.{Local, Calls}
 use Rattle.board.specs.Told.{actionNumber, outputNumber, Shows, Says}

@@ -8,7 +8,7 @@ use Rattle.model.specs.Event.{Event}
 use Rattle.model.specs.declared.Answer.{Answer}
 use Rattle.model.specs.declared.Action.{Action}
 use Rattle.model.specs.declared.Action.the-variants.{Rest, Operate}
-use Rattle.serve.specs.Kept.{Owned}
+use Rattle.layout.specs.Kept.{Owned}
 use Rattle.unit.specs.Events.{EventPromise}
 use Rattle.serve.specs.Stretch.{StretchPromise}
 use Rattle.serve.specs.declared.Made.{Made}

@@ -18,7 +18,7 @@ ghost use lib.ListN.{length};
 ghost use Rattle.model.specs.Config.{validOf};
 ghost use Rattle.model.specs.Event.{elapsed, setWord, setValue, pulses, store, local};
 ghost use Rattle.layout.specs.Unit.{layoutNumber, configGiven};
-ghost use Rattle.serve.specs.Kept.{ownedOf};
+ghost use Rattle.layout.specs.Kept.{ownedOf};
 ghost use Rattle.unit.specs.Fresh.{FreshPromise};
 ghost use Rattle.board.specs.Told.{Shows, Says};
 

@@ -10,4 +10,5 @@ pub mod RangeLaws
 pub mod JudgedLaws
 pub mod MemoryLaws
 pub mod TableLaws
+pub mod RecordsLaws
 pub mod Unique

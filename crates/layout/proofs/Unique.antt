@@ -17,7 +17,6 @@ use Rattle.layout.proofs.equipment.has_output.Reads as has-output
 use Rattle.layout.proofs.equipment.has_calculation.Reads as has-calculation
 use Rattle.layout.proofs.files.has_file.Reads as has-file
 use Rattle.layout.proofs.files.values_of.Reads as values-of
-use Rattle.layout.proofs.files.room_of.Reads as room-of
 use Rattle.layout.proofs.files.count_of.Reads as count-of
 use Rattle.layout.proofs.files.put_count.Reads as put-count
 use Rattle.layout.proofs.judged.fits.Reads as fits
@@ -33,6 +32,9 @@ use Rattle.layout.proofs.parts.put_fixed.Reads as put-fixed
 use Rattle.layout.proofs.port.mark_at.Reads as mark-at
 use Rattle.layout.proofs.port.port_in.Reads as port-in
 use Rattle.layout.proofs.port.keep_port.Reads as keep-port
+use Rattle.layout.proofs.records.slots.Reads as slots
+use Rattle.layout.proofs.records.base_of.Reads as base-of
+use Rattle.layout.proofs.records.room_of.Reads as room-of
 use Rattle.layout.proofs.select.hold_kept.Reads as hold-kept
 use Rattle.layout.proofs.select.keep_hold.Reads as keep-hold
 use Rattle.layout.proofs.status.configure_in.Reads as configure-in
@@ -85,6 +87,12 @@ one-has-file κ a x y s t p q = p ∙ sym q
 
 pub one-values-of : One values-of.Post (λ κ r s. r)
 one-values-of κ a x y s t p q = p ∙ sym q
+
+pub one-slots : One slots.Post (λ κ r s. r)
+one-slots κ a x y s t p q = p .0 ∙ sym (q .0)
+
+pub one-base-of : One base-of.Post (λ κ r s. r)
+one-base-of κ a x y s t p q = p .0 ∙ sym (q .0)
 
 pub one-room-of : One room-of.Post (λ κ r s. r)
 one-room-of κ a x y s t p q = p ∙ sym q

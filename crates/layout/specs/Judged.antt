@@ -30,7 +30,8 @@ use Rattle.layout.specs.Numbers.{
   same,
   readable,
 }
-use Rattle.layout.specs.Unit.{layoutNumber, unitIn, configIn, roomOf}
+use Rattle.layout.specs.Unit.{layoutNumber, unitIn, configIn}
+use Rattle.layout.specs.Records.{roomOf}
 use Rattle.layout.specs.declared.memory.MemoryNumbers.{MemoryNumbers}
 use Rattle.model.specs.declared.Core.{Core}
 use Rattle.model.specs.declared.Memory.{Memory}

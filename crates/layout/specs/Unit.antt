@@ -7,7 +7,6 @@ use lib.ListN.{length, getD, replicate}
 use lib.Dec.{leb}
 use Rattle.chars.specs.Put.{put}
 use Rattle.chars.specs.Word.{word, value, wordAt}
-use Rattle.model.specs.Limits.{fileRoom, longestRecord}
 use Rattle.model.specs.Config.{Config}
 use Rattle.layout.specs.declared.Places.{Places}
 use Rattle.layout.specs.Regions.{startIn, regionIn}
@@ -246,9 +245,3 @@ blankOf c =
       fixed = replicate 528 0;
       counts = replicate 32 0;
     }
-
--- ---- the room for records, which is a memory of its own
-
--- how many characters of records a configuration asks for: each of 32 files has room for 32 of the longest (History 4)
-unfoldable pub roomOf : Config → ℕ
-roomOf c = 32 * (fileRoom * longestRecord)

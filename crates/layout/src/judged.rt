@@ -5,10 +5,10 @@ use super::UNIT;
 use super::core::core_judged;
 use super::equipment::config_judged;
 use super::files::files_judged;
-use super::files::room_of;
 use super::memory::memory_judged;
 use super::numbers::told_long;
 use super::parts::layout_of;
+use super::records::room_of;
 ghost use mathlib.Core.Path.{_≡_};
 ghost use Rattle.layout.specs.Judged.{fitsIn};
 

@@ -26,7 +26,7 @@ use Rattle.model.specs.declared.Memory.{Memory}
 use Rattle.model.specs.declared.Mark.{Mark}
 use Rattle.model.specs.declared.Port.{Port}
 use Rattle.layout.specs.Numbers.{Written}
-use Rattle.serve.specs.Kept.{innerOf}
+use Rattle.layout.specs.Kept.{innerOf}
 use Rattle.serve.specs.declared.step.Step.{Step}
 use Rattle.serve.specs.declared.Made.{Made as MadeOf}
 use Rattle.serve.specs.Promises.{StirPromise, MadePromise}

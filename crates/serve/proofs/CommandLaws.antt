@@ -49,7 +49,7 @@ use Rattle.blocks.specs.Answers.{WritesAs, ExecutesAs}
 use Rattle.blocks.specs.declared.Written.{Written}
 use Rattle.blocks.specs.declared.Executed.{Executed}
 use Rattle.layout.specs.Unit.{Unit, NumbersOnly, numbersIn, unitLong, unitIn, configIn, setWords, setFixed, putWord}
-use Rattle.serve.specs.Kept.{areasBy, areasIn}
+use Rattle.layout.specs.Kept.{areasBy, areasIn}
 use Rattle.model.specs.declared.Port.{Port}
 use Rattle.layout.specs.Numbers.{Written as Kept}
 use Rattle.serve.specs.declared.step.Step.{Step}

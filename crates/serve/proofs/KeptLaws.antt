@@ -4,7 +4,7 @@ use Prim.Native.Nat.{ℕ}
 use mathlib.Core.List.{List}
 use Rattle.model.specs.Change.{stays}
 use Rattle.history.specs.Change.{areaAfter, countsAfter}
-use Rattle.serve.specs.Kept.{Steady}
+use Rattle.layout.specs.Kept.{Steady}
 use Rattle.serve.specs.Changes.{Shifted}
 
 -- nothing is changed

@@ -44,8 +44,8 @@ use Rattle.layout.specs.Numbers.{Written}
 use Rattle.control.specs.declared.Ran.{Ran}
 use Rattle.control.specs.Runs.{Runs}
 use Rattle.layout.specs.Unit.{NumbersOnly, unitIn}
-use Rattle.history.specs.Layout.{filesIn}
-use Rattle.serve.specs.Kept.{areasIn}
+use Rattle.layout.specs.Records.{filesIn}
+use Rattle.layout.specs.Kept.{areasIn}
 use Rattle.serve.proofs.KeptLaws.{still}
 use Rattle.serve.specs.declared.step.Step.{Step}
 use Rattle.serve.specs.Promises.{Tame, StepPromise, leaves, StepInPromise, MadeInPromise}

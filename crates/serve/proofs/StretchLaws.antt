@@ -29,12 +29,12 @@ use Rattle.layout.proofs.NumbersLaws.{written-readable}
 use Rattle.layout.proofs.PlaceLaws.{port-written}
 use Rattle.port.specs.Heard.{portHeardBy}
 use Rattle.port.proofs.PortLaws.{heard-as}
-use Rattle.history.specs.Layout.{filesIn}
+use Rattle.layout.specs.Records.{filesIn}
 use Rattle.history.proofs.LayoutLaws.{length-area}
 use Rattle.layout.specs.Unit.{Renumbered, unitIn, configIn, numbersIn}
 use Rattle.layout.proofs.UnitLaws.{numbers-left, numbers-only}
 use Rattle.model.proofs.TurnedAway.{short-away, unfit-away, works}
-use Rattle.serve.specs.Kept.{Kept, areasIn, innerOf, stateOf, Owned, keptIn, standing, Steady}
+use Rattle.layout.specs.Kept.{Kept, areasIn, innerOf, stateOf, Owned, keptIn, standing, Steady}
 use Rattle.serve.proofs.FitLaws.{stands-again}
 use Rattle.serve.proofs.KeptLaws.{still, steady-same}
 use Rattle.serve.specs.declared.Made.{Made as MadeOf}

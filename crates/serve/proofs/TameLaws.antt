@@ -41,7 +41,7 @@ use Rattle.model.specs.declared.Table.{Table}
 use Rattle.inputs.proofs.Fits.{inputs-fit}
 use Rattle.tables.proofs.Fits.{tables-fit}
 use Rattle.calculations.proofs.Fits.{calculations-fit}
-use Rattle.history.specs.Layout.{slot, baseOf, recordsIn, filesIn}
+use Rattle.layout.specs.Records.{slot, baseOf, recordsIn, filesIn}
 use Rattle.history.specs.Change.{areaAfter, countsAfter}
 use Rattle.history.specs.Tell.{cut, leftIn, toldIn}
 use Rattle.layout.specs.Numbers.{memoryIn}

@@ -11,12 +11,12 @@ use Rattle.model.specs.Step.{scanned, Stepped, telling}
 use Rattle.model.specs.declared.Action.the-variants.{Rest}
 use Rattle.model.specs.declared.Filled.{Filled}
 use Rattle.layout.specs.Numbers.{memoryIn, portIn, readable}
-use Rattle.history.specs.Layout.{filesIn}
+use Rattle.layout.specs.Records.{filesIn}
 use Rattle.history.specs.Tell.{Serves}
 use Rattle.history.proofs.FitsLaws.{serves-told, serves-shifted, serves-files, serves-written}
 use Rattle.serve.specs.declared.step.Step.{Step}
 use Rattle.layout.specs.Unit.{Unit, unitLong, unitIn, configIn, numbersIn}
-use Rattle.serve.specs.Kept.{areasBy, areasIn, heldIn, innerIn, Steady}
+use Rattle.layout.specs.Kept.{areasBy, areasIn, heldIn, innerIn, Steady}
 use Rattle.serve.proofs.TameLaws.{tame, history-says, told-short}
 use Rattle.serve.specs.Promises.{Ready, StepInPromise}
 

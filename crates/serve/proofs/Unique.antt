@@ -15,7 +15,7 @@ use Rattle.model.proofs.Conditions.{by-bool}
 use Rattle.layout.proofs.NumbersLaws.{readable-one}
 use Rattle.layout.specs.Unit.{unitLong, unitIn, configIn, numbersIn}
 use Rattle.layout.proofs.UnitOne.{unit-one}
-use Rattle.serve.specs.Kept.{Kept, stateOf, Owned, keptIn, standing}
+use Rattle.layout.specs.Kept.{Kept, stateOf, Owned, keptIn, standing}
 use Rattle.serve.specs.Stretch.{Served, StretchPromise}
 use Rattle.serve.specs.declared.Made.{Made}
 use Rattle.serve.proofs.FitLaws.{stands-readable}

@@ -1,4 +1,3 @@
-pub mod Kept
 pub mod Changes
 pub mod Ends
 pub mod Promises

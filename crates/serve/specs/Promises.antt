@@ -23,10 +23,10 @@ use Rattle.model.specs.declared.Mark.{Mark}
 use Rattle.model.specs.declared.Memory.{Memory}
 use Rattle.model.specs.declared.Port.{Port}
 use Rattle.layout.specs.Numbers.{coreIn, memoryIn, portIn, readable, Written}
-use Rattle.layout.specs.Unit.{unitIn, configIn, numbersIn, roomOf, NumbersOnly}
-use Rattle.history.specs.Layout.{filesIn}
+use Rattle.layout.specs.Unit.{unitIn, configIn, numbersIn, NumbersOnly}
+use Rattle.layout.specs.Records.{filesIn, roomOf}
 use Rattle.port.specs.Heard.{portHeardBy}
-use Rattle.serve.specs.Kept.{areasIn, heldIn, innerBy, innerIn, Owned, Steady}
+use Rattle.layout.specs.Kept.{areasIn, heldIn, innerBy, innerIn, Owned, Steady}
 use Rattle.serve.specs.Changes.{Shifted}
 use Rattle.serve.specs.declared.step.Step.{Step}
 use Rattle.serve.specs.declared.Made.{Made as MadeOf}

@@ -15,7 +15,7 @@ use Rattle.model.specs.declared.Answer.the-variants.{Ended}
 use Rattle.model.specs.declared.Action.the-variants.{Rest}
 use Rattle.layout.specs.Unit.{configIn}
 use Rattle.serve.specs.declared.Made.{Made}
-use Rattle.serve.specs.Kept.{Kept, stateOf, Owned, keptIn, standing, Steady}
+use Rattle.layout.specs.Kept.{Kept, stateOf, Owned, keptIn, standing, Steady}
 use Rattle.serve.specs.Changes.{Shifted}
 
 -- a stretch s as it comes with a lent buffer

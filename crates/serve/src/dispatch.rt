@@ -27,7 +27,7 @@ ghost use Rattle.model.specs.Clock.{clockFits};
 ghost use Rattle.model.specs.Step.{withHold};
 ghost use Rattle.layout.specs.Numbers.{coreIn, memoryIn, portIn};
 ghost use Rattle.layout.specs.Unit.{numbersIn};
-ghost use Rattle.serve.specs.Kept.{ownedOf};
+ghost use Rattle.layout.specs.Kept.{ownedOf};
 ghost use Rattle.serve.specs.Promises.{NumbersPromise, leaves, ActPromise, ServedPromise};
 
 // ---- what a function hands back, as a step

@@ -17,7 +17,7 @@ ghost use Rattle.model.specs.Clock.{clockFits};
 ghost use Rattle.layout.specs.Unit.{numbersIn, Renumbered};
 ghost use Rattle.layout.specs.Numbers.{coreIn, portIn, putPort};
 ghost use Rattle.port.specs.Heard.{portHeardBy};
-ghost use Rattle.serve.specs.Kept.{ownedOf};
+ghost use Rattle.layout.specs.Kept.{ownedOf};
 ghost use Rattle.serve.specs.Promises.{JudgedPromise};
 ghost use Rattle.serve.specs.Stretch.{StretchPromise};
 

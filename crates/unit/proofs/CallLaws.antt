@@ -15,7 +15,7 @@ use Rattle.model.specs.Port.{sentChars}
 use Rattle.model.specs.Run.{Result, Entry, short, turnedAway, shows, decided, resultOf, entryOf, afterFrom, traceFrom}
 use Rattle.model.specs.declared.Answer.{Answer}
 use Rattle.model.specs.declared.Action.the-variants.{Rest}
-use Rattle.serve.specs.Kept.{Kept, stateOf}
+use Rattle.layout.specs.Kept.{Kept, stateOf}
 use Rattle.unit.specs.Events.{Heeds}
 use Rattle.serve.specs.Stretch.{coming, Turns}
 use Rattle.unit.specs.Calls.{Local, results, shownBy, answeredBy, Calls, none, heard, heeded}

@@ -13,7 +13,7 @@ use Rattle.model.specs.Config.{Config}
 use Rattle.model.specs.State.{freshCore, freshAreas, freshHistory, freshPort, freshOf}
 use Rattle.model.specs.declared.Memory.the-variants.{Nothing}
 use Rattle.model.proofs.Conditions.{and-both}
-use Rattle.history.specs.Layout.{held, recordsIn, each, filesIn}
+use Rattle.layout.specs.Records.{held, recordsIn, each, filesIn, roomOf}
 use Rattle.layout.specs.Numbers.{
   bitOf,
   holdNumbers,
@@ -34,11 +34,11 @@ use Rattle.layout.specs.Numbers.{
   Written,
 }
 use Rattle.layout.proofs.NumbersLaws.{written-readable}
-use Rattle.layout.specs.Unit.{unitLong, configLong, layoutNumber, Unit, unitIn, configIn, numbersIn, configGiven, setNumbers, blankUnit, blankOf, Renumbered, roomOf}
+use Rattle.layout.specs.Unit.{unitLong, configLong, layoutNumber, Unit, unitIn, configIn, numbersIn, configGiven, setNumbers, blankUnit, blankOf, Renumbered}
 use Rattle.layout.specs.Regions.{startIn}
 use Rattle.layout.proofs.UnitLaws.{renumbered-then}
 use Rattle.layout.proofs.BlankLaws.{blank-long, blank-means}
-use Rattle.serve.specs.Kept.{keptOf, stateOf, ownedOf, keptIn, standing}
+use Rattle.layout.specs.Kept.{keptOf, stateOf, ownedOf, keptIn, standing}
 use Rattle.unit.specs.Fresh.{freshUnit, FreshPromise}
 
 -- ---- the loop

@@ -36,9 +36,9 @@ use Rattle.model.specs.declared.Core.{Core}
 use Rattle.model.specs.declared.Port.{Port}
 use Rattle.model.proofs.TurnedAway.{unfit-away, works}
 use Rattle.history.specs.Keep.{recordKept}
-use Rattle.history.specs.Layout.{filesIn}
+use Rattle.layout.specs.Records.{filesIn}
 use Rattle.history.proofs.FitsLaws.{kept-as}
-use Rattle.serve.specs.Kept.{Kept, keptOf, stateOf}
+use Rattle.layout.specs.Kept.{Kept, keptOf, stateOf}
 use Rattle.serve.specs.Changes.{Shifted}
 use Rattle.unit.specs.Events.{Heeds}
 use Rattle.serve.proofs.FitLaws.{in-range}

@@ -12,7 +12,7 @@ use Rattle.model.specs.declared.Answer.{Answer}
 use Rattle.model.proofs.Conditions.{by-bool}
 use Rattle.layout.specs.Unit.{unitLong, configIn}
 use Rattle.layout.proofs.UnitOne.{unit-one}
-use Rattle.serve.specs.Kept.{Kept, Owned, keptIn, standing}
+use Rattle.layout.specs.Kept.{Kept, Owned, keptIn, standing}
 use Rattle.serve.proofs.Unique.{kept-same, owned-same, ended-same}
 use Rattle.unit.specs.Events.{Heeds, EventPromise}
 use Rattle.unit.specs.Fresh.{FreshPromise}

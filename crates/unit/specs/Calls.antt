@@ -9,7 +9,7 @@ use Rattle.model.specs.Run.{Result, Entry}
 use Rattle.model.specs.declared.Answer.{Answer}
 use Rattle.model.specs.declared.Answer.the-variants.{Ended}
 use Rattle.model.specs.declared.Action.the-variants.{Rest}
-use Rattle.serve.specs.Kept.{Kept}
+use Rattle.layout.specs.Kept.{Kept}
 use Rattle.unit.specs.Events.{Heeds}
 use Rattle.serve.specs.Stretch.{coming, Turns}
 use Rattle.serve.specs.declared.Made.{Made}

@@ -11,7 +11,7 @@ ghost use Rattle.model.specs.Event.{elapsed};
 ghost use Rattle.model.specs.Step.{coreAfter};
 ghost use Rattle.layout.specs.Numbers.{coreIn, memoryIn, portIn};
 ghost use Rattle.layout.specs.Unit.{numbersIn};
-ghost use Rattle.serve.specs.Kept.{ownedOf};
+ghost use Rattle.layout.specs.Kept.{ownedOf};
 ghost use Rattle.serve.specs.Promises.{NumbersPromise};
 ghost use Rattle.unit.specs.Events.{EventPromise};
 

@@ -3,7 +3,7 @@ use borrow.Author.Tests.{eq-eqb, ne-eqb}
 use Rattle.model.specs.declared.Outcome.the-variants.{BroadcastDone, BroadcastRefused}
 use Rattle.layout.specs.Numbers.{coreIn, memoryIn, portIn}
 use Rattle.layout.proofs.PlaceLaws.{broadcast-written}
-use Rattle.serve.specs.Kept.{areasIn}
+use Rattle.layout.specs.Kept.{areasIn}
 use Rattle.serve.proofs.BroadcastLaws.{makes-broadcast}
 use Rattle.layout.specs.Unit.{numbersIn}
 use Rattle.layout.proofs.UnitLaws.{numbers-left, numbers-only}

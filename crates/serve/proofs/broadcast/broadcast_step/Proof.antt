@@ -4,7 +4,7 @@ use Rattle.model.specs.Frame.{asked}
 use Rattle.clock.specs.declared.Set.{Set}
 use Rattle.layout.specs.Unit.{configIn, numbersIn}
 use Rattle.layout.proofs.UnitLaws.{unit-long}
-use Rattle.serve.specs.Kept.{areasIn}
+use Rattle.layout.specs.Kept.{areasIn}
 use Rattle.serve.proofs.CommandLaws.{unshifted, unshifted-words, unshifted-numbers, numbers-kept, numbers-by-words, words-left, reset-left}
 use Rattle.serve.proofs.BroadcastLaws.{broadcast-not, broadcast-reset, broadcast-time, broadcast-other, stirs-reset, stirs-time, stirs-refused}
 use Rattle.model.specs.Clock.{setTimeOf}

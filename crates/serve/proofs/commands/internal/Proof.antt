@@ -13,7 +13,7 @@ use Rattle.blocks.specs.Answers.{WritesAs}
 use Rattle.blocks.proofs.MeansLaws.{executed-means}
 use Rattle.layout.specs.Unit.{configIn}
 use Rattle.layout.proofs.UnitLaws.{unit-long}
-use Rattle.serve.specs.Kept.{innerBy}
+use Rattle.layout.specs.Kept.{innerBy}
 use Rattle.serve.proofs.CommandLaws.{internal-initial, internal-reset, internal-write, internal-execute, internal-time, internal-unknown, acts-initial, acts-changed, acts-written, acts-executed, acts-timed, acts-refused, unshifted, unshifted-words, unshifted-fixed, unshifted-numbers, unshifted-then, numbers-kept, numbers-by-words, numbers-by-fixed, words-left, fixed-left, reset-left}
 use Rattle.serve.proofs.TameLaws.{reset-tame, write-bare, execute-bare, set-time-bare}
 use borrow.Author.Needs.{needs}

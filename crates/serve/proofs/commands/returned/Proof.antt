@@ -5,7 +5,7 @@ use Rattle.model.specs.Frame.{asked}
 use Rattle.layout.specs.Numbers.{coreIn}
 use Rattle.layout.proofs.NumbersLaws.{readable-written}
 use Rattle.clock.specs.Times.{readOf}
-use Rattle.serve.specs.Kept.{innerBy}
+use Rattle.layout.specs.Kept.{innerBy}
 use Rattle.serve.proofs.CommandLaws.{return-read, return-time, return-unknown, acts-scan, acts-refused}
 use Rattle.serve.proofs.TameLaws.{read-tame, time-tame}
 use borrow.Author.Needs.{needs}

@@ -10,7 +10,7 @@ use Rattle.layout.proofs.PlaceLaws.{hold-written}
 use Rattle.layout.specs.Unit.{configIn, numbersIn}
 use Rattle.layout.proofs.UnitLaws.{unit-long, numbers-left, numbers-only}
 use Rattle.points.proofs.AnswerLaws.{in-room, fills-as}
-use Rattle.serve.specs.Kept.{innerIn}
+use Rattle.layout.specs.Kept.{innerIn}
 use Rattle.serve.proofs.CommandLaws.{internal-stays, return-stays, acts-scan, acts-refused, unshifted-numbers, numbers-kept}
 use Rattle.serve.proofs.StepLaws.{step-broken, step-told, step-inputs, step-calculations, step-tables, step-control, step-internal, step-return, step-unknown, acts-control, run-held, acted-still, alone-stays}
 use Rattle.serve.proofs.KeptLaws.{steady-same}

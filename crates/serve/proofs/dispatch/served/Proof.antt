@@ -5,7 +5,7 @@ use Rattle.model.specs.Step.{settled, finished, served}
 use Rattle.layout.proofs.NumbersLaws.{written-readable}
 use Rattle.layout.specs.Unit.{configIn, numbersIn}
 use Rattle.layout.proofs.UnitLaws.{numbers-left, numbers-only, numbers-on}
-use Rattle.serve.specs.Kept.{innerIn}
+use Rattle.layout.specs.Kept.{innerIn}
 use Rattle.serve.proofs.CommandLaws.{unshifted-numbers}
 use Rattle.serve.proofs.EndingLaws.{status-numbered}
 use Rattle.serve.proofs.KeptLaws.{steady-then}

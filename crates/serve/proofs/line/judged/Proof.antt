@@ -3,7 +3,7 @@ use mathlib.Core.Path.{sym, _∙_}
 use Rattle.layout.specs.Numbers.{portIn}
 use Rattle.layout.proofs.NumbersLaws.{readable-written}
 use Rattle.layout.specs.Unit.{configIn, numbersIn}
-use Rattle.serve.specs.Kept.{innerIn}
+use Rattle.layout.specs.Kept.{innerIn}
 use Rattle.layout.proofs.UnitLaws.{numbers-only}
 use Rattle.serve.proofs.CommandLaws.{unshifted-numbers}
 use Rattle.serve.proofs.KeptLaws.{steady-then}

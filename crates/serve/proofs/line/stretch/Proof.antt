@@ -4,7 +4,7 @@ use native.Mathlib.Omega.{arith}
 use Prim.Native.Nat.{_≤_, _<_}
 use lib.ListN.{length}
 use Rattle.layout.specs.Unit.{configIn}
-use Rattle.serve.specs.Kept.{stateOf, ownedOf, keptIn}
+use Rattle.layout.specs.Kept.{stateOf, ownedOf, keptIn}
 use Rattle.serve.proofs.FitLaws.{judged-stands, judged-fits, judged-unfit, stands-room, stands-readable, in-range}
 use Rattle.serve.proofs.StretchLaws.{stretch-short, stretch-unfit, stretch-made}
 use borrow.Author.Needs.{needs}

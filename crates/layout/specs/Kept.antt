@@ -10,9 +10,9 @@ use Rattle.model.specs.State.{Areas, Files, Inner, State}
 use Rattle.model.specs.declared.Core.{Core}
 use Rattle.model.specs.declared.Memory.{Memory}
 use Rattle.model.specs.declared.Port.{Port}
-use Rattle.history.specs.Layout.{filesIn}
+use Rattle.layout.specs.Records.{filesIn, roomOf}
 use Rattle.layout.specs.Numbers.{coreIn, memoryIn, portIn, readable}
-use Rattle.layout.specs.Unit.{Unit, layoutNumber, unitIn, configIn, numbersIn, roomOf}
+use Rattle.layout.specs.Unit.{Unit, layoutNumber, unitIn, configIn, numbersIn}
 
 pub record Kept : Type 0 where
   pub core : Core
