@@ -12,7 +12,7 @@ use Rattle.model.specs.declared.Action.the-variants.{Rest}
 use Rattle.model.specs.declared.Filled.{Filled}
 use Rattle.layout.specs.Numbers.{memoryIn, portIn, readable}
 use Rattle.layout.specs.Records.{filesIn}
-use Rattle.history.specs.Tell.{Serves}
+use Rattle.history.specs.Tell.{ServePromise}
 use Rattle.history.proofs.FitsLaws.{serves-told, serves-shifted, serves-files, serves-written}
 use Rattle.serve.specs.declared.step.Step.{Step}
 use Rattle.layout.specs.Unit.{Unit, unitLong, unitIn, configIn, numbersIn}
@@ -21,7 +21,7 @@ use Rattle.serve.proofs.TameLaws.{tame, history-says, told-short}
 use Rattle.serve.specs.Promises.{Ready, StepInPromise}
 
 pub acted-told : (u block area : List ℕ) (q : Request) {m : Stepped} (v : List ℕ) {entry exit area′ : List ℕ} (t : Filled) {r : Step}
-    → length u ≡ unitLong → Ready u area → readable (numbersIn u) ≡ true → Serves u q area entry t v area′ exit
+    → length u ≡ unitLong → Ready u area → readable (numbersIn u) ≡ true → ServePromise u q area entry t v area′ exit
     → m ≡ telling (innerIn u block area) (historyOf (configIn u .files) (configIn u .values) (record { memory = memoryIn (numbersIn u); files = heldIn u area }) q)
     → r ≡ record { outcome = t .outcome; action = Rest; count = t .count }
     → StepInPromise m (areasIn v block) (heldIn u area) (filesIn (configIn u .values) area′ (unitIn v .counts)) (portIn (numbersIn u)) (numbersIn v) area (unitIn u .counts) area′ (unitIn v .counts) entry exit r
@@ -47,5 +47,5 @@ acted-told u block area q v t long y stands s z e =
       changed = record { moved = ch .0; counted = ch .1 };
     })
 
-pub told-steady : (u v : List ℕ) {area entry area′ exit : List ℕ} {q : Request} {t : Filled} → Serves u q area entry t v area′ exit → Steady u v
+pub told-steady : (u v : List ℕ) {area entry area′ exit : List ℕ} {q : Request} {t : Filled} → ServePromise u q area entry t v area′ exit → Steady u v
 told-steady u v s = record { layout = ap (λ (x : Unit). x .layout) (s .left); config = ap (λ (x : Unit). x .config) (s .left); long = s .long }
