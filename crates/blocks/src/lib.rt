@@ -1,6 +1,7 @@
 // WRITE, EXECUTE and READ over the blocks, which lie in the fixed area of a unit's memory and in the parameter block; the caller lends both.
 use frames::master_of;
 use layout::UNIT;
+use model::Age;
 use model::Filled;
 use model::Frame;
 use model::Master;
@@ -8,8 +9,8 @@ use model::Ordinal;
 use model::Outcome;
 use model::Pending;
 use model::Reply;
-use model::Select;
 use model::Write;
+use model::aged;
 ghost use mathlib.Core.Path.{_≡_};
 ghost use mathlib.Core.Bool.{false};
 ghost use Prim.Native.Nat.{_≤_};
@@ -46,7 +47,7 @@ fn piece<'a>(area: &'a [u8], base: usize, size: usize) -> &'a [u8]
 }
 
 // Where an ordinal of the fixed area starts.
-fn base_of(ordinal: u8) -> usize
+fn ordinal_start(ordinal: u8) -> usize
     ensures { λ r. ⌜ (r ≡ definition.baseOf ordinal) × (r ≤ 272) ⌝ }
 {
     match ordinal {
@@ -63,7 +64,7 @@ fn block_of<'a>(fixed: &'a [u8], block: &'a [u8], ordinal: u8) -> &'a [u8]
     if ordinal == 0x06 {
         return block;
     }
-    let base = base_of(ordinal);
+    let base = ordinal_start(ordinal);
     if ordinal == 0x00 {
         return piece(fixed, base, 16);
     }
@@ -152,7 +153,7 @@ pub fn write(pending: Pending, frame: Frame, body: &[u8]) -> Written
         Pending::NoWrite => taken(master, body),
         Pending::Waits(w) => {
             let holder = w.master;
-            if holder.0 == master.0 {
+            if holder.is(master) {
                 return taken(master, body);
             }
             Written {
@@ -170,18 +171,17 @@ pub fn waits_after(pending: Pending, ms: u32) -> Pending
     match pending {
         Pending::NoWrite => pending,
         Pending::Waits(w) => {
-            let age = w.age as u64 + ms as u64;
-            if age <= Select::HOLD as u64 {
-                let master = w.master;
-                let ordinal = w.ordinal;
-                return Pending::Waits(Write {
+            let master = w.master;
+            let ordinal = w.ordinal;
+            match aged(w.age, ms) {
+                Age::Lives(age) => Pending::Waits(Write {
                     master: master,
                     bias: w.bias,
                     ordinal: ordinal,
-                    age: age as u16,
-                });
+                    age: age,
+                }),
+                Age::Over => Pending::NoWrite,
             }
-            Pending::NoWrite
         }
     }
 }
@@ -196,7 +196,7 @@ pub struct Executed {
 }
 
 // Nothing was written.
-fn refused(outcome: Outcome) -> Executed
+fn not_executed(outcome: Outcome) -> Executed
     ensures { λ r. ⌜ r ≡ record { outcome = outcome; configures = false; clears = false } ⌝ }
 {
     Executed {
@@ -237,10 +237,10 @@ fn store(
             chars::copy(body, 0, n, block, bias as usize);
             return accepted(o);
         }
-        layout::put_fixed(unit, base_of(o) + bias as usize, body);
+        layout::put_fixed(unit, ordinal_start(o) + bias as usize, body);
         return accepted(o);
     }
-    refused(Outcome::NotValid)
+    not_executed(Outcome::NotValid)
 }
 
 // 20h/31h: the write that waits takes its characters.
@@ -257,21 +257,21 @@ pub fn execute(
 {
     let n = body.len();
     if n < 1 {
-        return refused(Outcome::WrongCount);
+        return not_executed(Outcome::WrongCount);
     }
     if MOST < n {
-        return refused(Outcome::WrongCount);
+        return not_executed(Outcome::WrongCount);
     }
     match pending {
-        Pending::NoWrite => refused(Outcome::NothingWaits),
+        Pending::NoWrite => not_executed(Outcome::NothingWaits),
         Pending::Waits(w) => {
             let holder = w.master;
             let master = master_of(frame.address);
-            if holder.0 == master.0 {
+            if holder.is(master) {
                 let ordinal = w.ordinal;
                 return store(ordinal, w.bias, body, unit, block);
             }
-            refused(Outcome::WriteHeld)
+            not_executed(Outcome::WriteHeld)
         }
     }
 }

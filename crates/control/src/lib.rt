@@ -3,6 +3,7 @@ use frames::master_of;
 use layout::UNIT;
 use layout::has_output;
 use model::Action;
+use model::Age;
 use model::ControlOutput;
 use model::Frame;
 use model::Hold;
@@ -10,9 +11,10 @@ use model::Master;
 use model::Outcome;
 use model::Reply;
 use model::Select;
+use model::aged;
 ghost use mathlib.Core.Path.{_≡_};
 ghost use Rattle.model.specs.Frame.{asked};
-ghost use Rattle.model.specs.Control.{isOf, keeps, takes, selectWhen, operateWhen, resetWhen, selectOf, controlOf, operates, breaks, heldAfter};
+ghost use Rattle.model.specs.Control.{keeps, takes, selectWhen, operateWhen, resetWhen, selectOf, controlOf, operates, breaks, heldAfter};
 ghost use Rattle.layout.specs.Unit.{configIn};
 ghost use Rattle.control.specs.Runs.{Runs, ranOf};
 
@@ -34,12 +36,6 @@ fn kept(outcome: Outcome, hold: Hold) -> Ran
         hold: hold,
         count: 0,
     }
-}
-
-fn same(m: Master, n: Master) -> bool
-    ensures { λ r. ⌜ r ≡ isOf m n ⌝ }
-{
-    m.0 == n.0
 }
 
 fn take(m: Master, n: ControlOutput, close: bool, reply: &mut [u8]) -> Ran
@@ -93,14 +89,14 @@ fn operate(hold: Hold, m: Master) -> Ran
     match hold {
         Hold::Free => kept(Outcome::NothingWaits, hold),
         Hold::TimedOut(late) => {
-            if same(late, m) {
+            if late.is(m) {
                 return kept(Outcome::SelectTimedOut, Hold::Free);
             }
             kept(Outcome::NothingWaits, hold)
         }
         Hold::Held(s) => {
             let owner = s.master;
-            if same(owner, m) {
+            if owner.is(m) {
                 let output = s.output;
                 return Ran {
                     outcome: Outcome::Done,
@@ -172,7 +168,7 @@ pub fn breaks_off(hold: Hold, frame: Frame, body: &[u8]) -> bool
         Hold::TimedOut(_) => false,
         Hold::Held(s) => {
             let owner = s.master;
-            if same(owner, master_of(frame.address)) {
+            if owner.is(master_of(frame.address)) {
                 return !operates_with(frame, body);
             }
             false
@@ -180,7 +176,7 @@ pub fn breaks_off(hold: Hold, frame: Frame, body: &[u8]) -> bool
     }
 }
 
-// Time passes: a select that lived too long leaves its master's mark. An age out of range has timed out.
+// Time passes: a select that lived too long leaves its master's mark.
 pub fn held_after(hold: Hold, ms: u32) -> Hold
     ensures { λ r. ⌜ r ≡ heldAfter hold ms ⌝ }
 {
@@ -190,16 +186,15 @@ pub fn held_after(hold: Hold, ms: u32) -> Hold
         Hold::Held(s) => {
             let owner = s.master;
             let output = s.output;
-            let age = s.age as u64 + ms as u64;
-            if age <= Select::HOLD as u64 {
-                return Hold::Held(Select {
+            match aged(s.age, ms) {
+                Age::Lives(age) => Hold::Held(Select {
                     master: owner,
                     output: output,
                     close: s.close,
-                    age: age as u16,
-                });
+                    age: age,
+                }),
+                Age::Over => Hold::TimedOut(owner),
             }
-            Hold::TimedOut(owner)
         }
     }
 }

@@ -21,6 +21,7 @@ use Rattle.layout.proofs.files.count_of.Reads as count-of
 use Rattle.layout.proofs.files.put_count.Reads as put-count
 use Rattle.layout.proofs.judged.fits.Reads as fits
 use Rattle.layout.proofs.told.Reads as told
+use Rattle.layout.proofs.memory.dump_most.Reads as dump-most
 use Rattle.layout.proofs.memory.memory_in.Reads as memory-in
 use Rattle.layout.proofs.memory.keep_memory.Reads as keep-memory
 use Rattle.layout.proofs.parts.word_of.Reads as word-of
@@ -108,6 +109,9 @@ one-fits κ a x y s t p q = p ∙ sym q
 
 pub one-told : One told.Post (λ κ r s. r)
 one-told κ a x y s t p q = p ∙ sym q
+
+pub one-dump-most : One dump-most.Post (λ κ r s. r)
+one-dump-most κ a x y s t p q = p ∙ sym q
 
 pub one-memory-in : One memory-in.Post (λ κ r s. r)
 one-memory-in κ a x y s t p q = p ∙ sym q

@@ -1,9 +1,9 @@
 // The clock.
 use super::UNIT;
+use super::numbers::as_number;
 use super::numbers::kept_of;
 use super::numbers::low;
 use super::numbers::put_kept;
-use super::numbers::wide;
 use model::Clock;
 ghost use mathlib.Core.Path.{_≡_};
 ghost use Prim.Native.Nat.{_<_};
@@ -29,9 +29,9 @@ pub fn keep_clock(unit: &mut [u8; UNIT], day: u16, hour: u8, minute: u8, second:
         × (hour < 256) × (minute < 256) × (second < 256) ⌝ }
 {
     put_kept(unit, 0, day);
-    put_kept(unit, 1, wide(hour));
-    put_kept(unit, 2, wide(minute));
-    put_kept(unit, 3, wide(second));
+    put_kept(unit, 1, as_number(hour));
+    put_kept(unit, 2, as_number(minute));
+    put_kept(unit, 3, as_number(second));
     put_kept(unit, 4, ms);
 }
 

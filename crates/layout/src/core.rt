@@ -3,7 +3,6 @@ use super::UNIT;
 use super::clock::clock_in;
 use super::clock::clock_judged;
 use super::clock::keep_clock;
-use super::numbers::told_long;
 use super::port::port_judged;
 use super::select::hold_judged;
 use super::select::hold_kept;
@@ -42,7 +41,7 @@ pub fn keep_core(unit: &mut [u8; UNIT], core: Core)
     ensures { λ _. ⌜ Renumbered (now (unit .entry)) (now (unit .exit)) (putCore core (unitIn (now (unit .entry)) .numbers))
         × (coreIn (unitIn (now (unit .exit)) .numbers) ≡ core) ⌝ }
 {
-    told_long(unit);
+    chars::told_long(unit);
     let clock = core.clock;
     keep_clock(
         unit,

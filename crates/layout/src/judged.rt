@@ -6,7 +6,6 @@ use super::core::core_judged;
 use super::equipment::config_judged;
 use super::files::files_judged;
 use super::memory::memory_judged;
-use super::numbers::told_long;
 use super::parts::layout_of;
 use super::records::room_of;
 ghost use mathlib.Core.Path.{_≡_};
@@ -18,7 +17,7 @@ ghost use Rattle.layout.specs.Judged.{fitsIn};
 pub fn fits<'a>(unit: &'a [u8; UNIT], lent: usize, room: usize) -> bool
     ensures { λ r. ⌜ r ≡ fitsIn (now (unit .entry)) lent room ⌝ }
 {
-    told_long(unit);
+    chars::told_long(unit);
     layout_of(unit) == CURRENT
         && (room_of(unit) <= room
             && (core_judged(unit)

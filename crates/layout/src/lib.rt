@@ -31,6 +31,7 @@ pub use files::has_file;
 pub use files::put_count;
 pub use files::values_of;
 pub use judged::fits;
+pub use memory::dump_most;
 pub use memory::keep_memory;
 pub use memory::memory_in;
 pub use parts::fixed_of;

@@ -29,9 +29,6 @@ pub fn put_kept(unit: &mut [u8; UNIT], i: usize, v: u16)
     }
 }
 
-// Nothing is done: an array that is lent as a slice tells its length.
-pub fn told_long(unit: &[u8]) {}
-
 pub fn low(x: u16) -> u8
     ensures { λ r. ⌜ r ≡ x % 256 ⌝ }
 {
@@ -39,7 +36,7 @@ pub fn low(x: u16) -> u8
 }
 
 // A byte as a number, with its bound.
-pub fn wide(x: u8) -> u16
+pub fn as_number(x: u8) -> u16
     ensures { λ r. ⌜ (r ≡ x) × (r < 256) ⌝ }
 {
     x as u16

@@ -1,11 +1,11 @@
 // The select: a tag first, 0 none, 1 one is held, 2 a master's has timed out, and 0 in each place that its case does not use.
 use super::UNIT;
 use super::equipment::has_output;
+use super::numbers::as_number;
 use super::numbers::bit;
 use super::numbers::kept_of;
 use super::numbers::low;
 use super::numbers::put_kept;
-use super::numbers::wide;
 use super::numbers::zeros;
 use model::ControlOutput;
 use model::Hold;
@@ -84,12 +84,12 @@ pub fn keep_hold(unit: &mut [u8; UNIT], hold: Hold)
         Hold::Held(select) => put_hold(
             unit,
             1,
-            wide(select.master.0),
-            wide(select.output.0),
+            as_number(select.master.0),
+            as_number(select.output.0),
             bit(select.close),
             select.age,
         ),
-        Hold::TimedOut(master) => put_hold(unit, 2, wide(master.0), 0, 0, 0),
+        Hold::TimedOut(master) => put_hold(unit, 2, as_number(master.0), 0, 0, 0),
     }
 }
 

@@ -1,9 +1,9 @@
 // The write: a tag first, 0 none, 1 one waits, and 0 in each place that its case does not use.
 use super::UNIT;
+use super::numbers::as_number;
 use super::numbers::kept_of;
 use super::numbers::low;
 use super::numbers::put_kept;
-use super::numbers::wide;
 use super::numbers::zeros;
 use super::select::master_fits;
 use model::Master;
@@ -83,9 +83,9 @@ pub fn keep_write(unit: &mut [u8; UNIT], write: Pending)
         Pending::Waits(write) => put_write(
             unit,
             1,
-            wide(write.master.0),
+            as_number(write.master.0),
             write.bias,
-            wide(write.ordinal.0),
+            as_number(write.ordinal.0),
             write.age,
         ),
     }

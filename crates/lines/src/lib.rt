@@ -49,21 +49,11 @@ fn all_hex(ds: &[u8]) -> bool
     true
 }
 
-// How many characters a loop writes: no more than there is room for.
-fn least(n: usize, room: usize) -> usize
-    ensures { λ r. ⌜ r ≡ min n room ⌝ }
-{
-    if n < room {
-        return n;
-    }
-    room
-}
-
 fn put_pairs(ds: &[u8], out: &mut [u8])
     requires { ⌜ every isHex (now ds) ≡ true ⌝ }
     ensures { λ _. ⌜ now (out .exit) ≡ put (now (out .entry)) 0 (pairs (now (ds .entry))) ⌝ }
 {
-    let count = least(ds.len() / 2, out.len());
+    let count = chars::room(out.len(), 0, ds.len() / 2);
     let mut i = 0;
     while i < count {
         let high = hex_value(ds[2 * i]);
@@ -171,10 +161,7 @@ fn put_run(out: &mut [u8], at: usize, run: &[u8], from: usize) -> usize
     }
     let n = run.len() - from;
     chars::copy(run, from, n, out, at);
-    if out.len() <= at {
-        return at;
-    }
-    at + least(n, out.len() - at)
+    at + chars::room(out.len(), at, n)
 }
 
 fn put_number(out: &mut [u8], at: usize, n: u64) -> usize

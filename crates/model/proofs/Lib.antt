@@ -3,6 +3,7 @@ pub mod Unique
 pub mod FileLaws
 pub mod AreaLaws
 pub mod FrameLaws
+pub mod Ages
 pub mod Cases
 pub mod Runs
 pub mod Parts

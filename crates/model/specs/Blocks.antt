@@ -6,11 +6,11 @@ use lib.ListN.{length, getD}
 use lib.Dec.{eqb, leb}
 use Rattle.chars.specs.Put.{put, part}
 use Rattle.chars.specs.Word.{wordAt}
-use Rattle.model.specs.Limits.{holdTime, mostAsked}
+use Rattle.model.specs.Limits.{mostAsked}
 use Rattle.model.specs.Frame.{Request, masterOf}
 use Rattle.model.specs.Config.{within}
 use Rattle.model.specs.Scan.{Scan, tells, refusesWith, refuses, counts}
-use Rattle.model.specs.Control.{isOf}
+use Rattle.model.specs.Control.{isOf, lives}
 use Rattle.model.specs.declared.Outcome.{Outcome}
 use Rattle.model.specs.declared.Outcome.the-variants.{WriteTaken, WrongCount, NotValid, NothingWaits, WriteHeld}
 use Rattle.model.specs.declared.Master.{Master}
@@ -116,6 +116,6 @@ dropped (Waits w) m = cond (isOf (w .master) m) NoWrite (Waits w)
 unfoldable pub waitsAfter : Pending → ℕ → Pending
 waitsAfter NoWrite ms = NoWrite
 waitsAfter (Waits w) ms =
-    cond (leb (w .age + ms) holdTime)
+    cond (lives (w .age) ms)
     (Waits (record { master = w .master; bias = w .bias; ordinal = w .ordinal; age = w .age + ms }))
     NoWrite

@@ -22,6 +22,8 @@ use Rattle.model.specs.declared.Action.the-variants.{Rest, Operate}
 use Rattle.model.specs.declared.Master.{Master}
 use Rattle.model.specs.declared.ControlOutput.{ControlOutput}
 use Rattle.model.specs.declared.Select.{Select}
+use Rattle.model.specs.declared.Age.{Age}
+use Rattle.model.specs.declared.Age.the-variants.{Lives, Over}
 use Rattle.model.specs.declared.Hold.{Hold}
 use Rattle.model.specs.declared.Hold.the-variants.{Free, Held, TimedOut}
 
@@ -94,11 +96,18 @@ breaks Free q = false
 breaks (TimedOut p) q = false
 breaks (Held s) q = isOf (s .master) (masterOf (q .address)) && not (operates q)
 
--- time passes: at 5,000 ms a select lives, at 5,001 it has timed out (Select 4)
+-- time passes: at 5,000 ms a select or a write lives, at 5,001 its time is over (Select 4; Write 6)
+abbrev pub lives : ℕ → ℕ → Bool
+lives age ms = leb (age + ms) holdTime
+
+unfoldable pub agedOf : ℕ → ℕ → Age
+agedOf age ms = cond (lives age ms) (Lives (age + ms)) Over
+
+-- a select whose time is over leaves its master's mark (Select 4)
 unfoldable pub heldAfter : Hold → ℕ → Hold
 heldAfter Free ms = Free
 heldAfter (TimedOut p) ms = TimedOut p
 heldAfter (Held s) ms =
-    cond (leb (s .age + ms) holdTime)
+    cond (lives (s .age) ms)
     (Held (record { master = s .master; output = s .output; close = s .close; age = s .age + ms }))
     (TimedOut (s .master))

@@ -1,5 +1,5 @@
 -- The figures that limit things, each once; Tied and src/lib.rt hold them to the constants of the thing they limit (Frames 19).
-use Prim.Native.Nat.{ℕ, _+_, _*_, _-_}
+use Prim.Native.Nat.{ℕ, _+_, _*_, _-_, _/_}
 
 -- a master's frame has 8 to 136 characters (Frames 2)
 abbrev pub shortestFrame : ℕ
@@ -45,3 +45,7 @@ longestRecord = recordSize mostValues
 
 abbrev pub fileRoom : ℕ
 fileRoom = 32
+
+-- a reply carries at most as many records as are heads in what its data leave behind the quantity (History 8)
+abbrev pub mostCarried : ℕ
+mostCarried = (mostData - 1) / recordHead

@@ -2,6 +2,7 @@
 // What is right to do with them stands in specs/. Areas and tables are lent as arrays and so have no type here.
 ghost use mathlib.Core.Path.{_≡_};
 ghost use Rattle.model.specs.Limits.{recordSize};
+ghost use Rattle.model.specs.Control.{isOf, agedOf};
 ghost use Rattle.model.specs.Tied.{limitsTold};
 
 // ---- numbers: each subsystem's sequence numbers are a kind of their own
@@ -13,6 +14,15 @@ pub struct ControlOutput(pub u8);
 pub struct SpecialCalculation(pub u8);
 
 pub struct Master(pub u8);
+
+impl Master {
+    // The same master.
+    pub fn is(self, other: Master) -> bool
+        ensures { λ r. ⌜ r ≡ isOf self other ⌝ }
+    {
+        self.0 == other.0
+    }
+}
 
 pub struct Ordinal(pub u8);
 
@@ -172,6 +182,23 @@ impl Select {
             age: 0,
         }
     }
+}
+
+// How old a select, or a write, is after some time: it lives, or its time is over.
+pub enum Age {
+    Lives(u16),
+    Over,
+}
+
+// An age out of range is over.
+pub fn aged(age: u16, ms: u32) -> Age
+    ensures { λ r. ⌜ r ≡ agedOf age ms ⌝ }
+{
+    let sum = age as u64 + ms as u64;
+    if sum <= Select::HOLD as u64 {
+        return Age::Lives(sum as u16);
+    }
+    Age::Over
 }
 
 // The unit's one select, or the mark that its master's has timed out.

@@ -2,9 +2,8 @@
 use super::Made;
 use super::commands::timed;
 use super::ending::quiet;
-use super::lent::told_long;
 use super::step::Step;
-use super::step::refused;
+use super::step::plain_step;
 use super::step::scanned;
 use frames::outcomes::number;
 use layout::UNIT;
@@ -19,7 +18,7 @@ ghost use Rattle.serve.specs.Promises.{BroadcastStepPromise, BroadcastPr
 fn broadcast_step<'a>(unit: &mut [u8; UNIT], frame: Frame, body: &'a [u8]) -> Step
     ensures { λ r. ⌜ BroadcastStepPromise (asked frame (now (body .entry))) (now (unit .entry)) (now (unit .exit)) r ⌝ }
 {
-    told_long(unit);
+    chars::told_long(unit);
     if frame.function == 0x20 {
         let command = frame.command;
         return match command {
@@ -31,10 +30,10 @@ fn broadcast_step<'a>(unit: &mut [u8; UNIT], frame: Frame, body: &'a [u8]) -> St
                 let clock = clock_in(unit);
                 timed(unit, clock::set_time(clock, frame, body))
             }
-            _ => refused(Outcome::Unknown),
+            _ => plain_step(Outcome::Unknown),
         };
     }
-    refused(Outcome::Unknown)
+    plain_step(Outcome::Unknown)
 }
 
 // It is never answered, and sets bit 2.

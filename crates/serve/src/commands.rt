@@ -1,7 +1,6 @@
 // Functions 20h and 28h by command.
-use super::lent::told_long;
 use super::step::Step;
-use super::step::refused;
+use super::step::plain_step;
 use super::step::scanned;
 use layout::UNIT;
 use layout::clock_in;
@@ -41,7 +40,7 @@ fn written(unit: &mut [u8; UNIT], done: blocks::Written) -> Step
     let outcome = done.outcome;
     let write = done.write;
     keep_write(unit, write);
-    refused(outcome)
+    plain_step(outcome)
 }
 
 fn unless(cleared: bool, bit: bool) -> bool
@@ -64,7 +63,7 @@ fn executed(unit: &mut [u8; UNIT], done: blocks::Executed) -> Step
     let error = error_in(unit);
     keep_configure(unit, unless(done.configures, configure));
     keep_error(unit, unless(done.clears, error));
-    refused(outcome)
+    plain_step(outcome)
 }
 
 pub fn timed(unit: &mut [u8; UNIT], done: clock::Set) -> Step
@@ -82,7 +81,7 @@ pub fn timed(unit: &mut [u8; UNIT], done: clock::Set) -> Step
         clock.second,
         clock.ms,
     );
-    refused(outcome)
+    plain_step(outcome)
 }
 
 // ---- functions by command
@@ -105,10 +104,10 @@ fn restart(unit: &mut [u8; UNIT], body: &[u8]) -> Step
         (cond (eqb (length (now (body .entry))) 0) Memory.Nothing (memoryIn (numbersIn (now (unit .entry))))) (portIn (numbersIn (now (unit .entry)))) ⌝ }
 {
     if body.len() != 0 {
-        return refused(Outcome::WrongCount);
+        return plain_step(Outcome::WrongCount);
     }
     forget(unit);
-    refused(Outcome::Done)
+    plain_step(Outcome::Done)
 }
 
 // Function 20h.
@@ -122,7 +121,7 @@ pub fn internal<'a>(
     ensures { λ r. ⌜ InternalPromise (asked frame (now (body .entry)))
         (now (unit .entry)) (now (block .entry)) (now (unit .exit)) (now (block .exit)) (now (buffer .entry)) (now (buffer .exit)) r ⌝ }
 {
-    told_long(unit);
+    chars::told_long(unit);
     let command = frame.command;
     match command {
         0x00 => restart(unit, body),
@@ -140,7 +139,7 @@ pub fn internal<'a>(
             let clock = clock_in(unit);
             timed(unit, clock::set_time(clock, frame, body))
         }
-        _ => refused(Outcome::Unknown),
+        _ => plain_step(Outcome::Unknown),
     }
 }
 
@@ -163,6 +162,6 @@ pub fn returned<'a>(
             let clock = clock_in(unit);
             scanned(clock::read_time(clock, frame, body, buffer))
         }
-        _ => refused(Outcome::Unknown),
+        _ => plain_step(Outcome::Unknown),
     }
 }

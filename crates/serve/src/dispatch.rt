@@ -6,9 +6,8 @@ use super::ending::finish;
 use super::ending::port_status_in;
 use super::ending::settle;
 use super::ending::status_in;
-use super::lent::told_long;
 use super::step::Step;
-use super::step::refused;
+use super::step::plain_step;
 use super::step::scanned;
 use frames::outcomes::number;
 use layout::UNIT;
@@ -77,10 +76,10 @@ fn act<'a>(
         (ownedOf (now (unit .entry)) (now (block .entry)) (now (records .entry)))
         (ownedOf (now (unit .exit)) (now (block .exit)) (now (records .exit))) (now (buffer .entry)) (now (buffer .exit)) r ⌝ }
 {
-    told_long(unit);
+    chars::told_long(unit);
     if control::breaks_off(hold_kept(unit), frame, body) {
         keep_hold(unit, Hold::Free);
-        return refused(Outcome::BrokenOff);
+        return plain_step(Outcome::BrokenOff);
     }
     let function = frame.function;
     match function {
@@ -95,7 +94,7 @@ fn act<'a>(
         }
         0x20 => internal(unit, block, buffer, frame, body),
         0x28 => returned(unit, block, buffer, frame, body),
-        _ => refused(Outcome::Unknown),
+        _ => plain_step(Outcome::Unknown),
     }
 }
 

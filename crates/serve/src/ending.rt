@@ -33,7 +33,7 @@ ghost use Rattle.serve.specs.Promises.{NumbersPromise};
 
 // ---- the reply
 
-fn bit(on: bool, value: u8) -> u8
+fn status_bit(on: bool, value: u8) -> u8
     ensures { λ r. ⌜ (r ≡ cond on value 0) × (r ≤ value) ⌝ }
 {
     if on {
@@ -46,7 +46,8 @@ fn bit(on: bool, value: u8) -> u8
 pub fn status_in<'a>(unit: &'a [u8; UNIT]) -> u8
     ensures { λ r. ⌜ r ≡ statusOf (coreIn (numbersIn (now (unit .entry)))) ⌝ }
 {
-    bit(configure_in(unit), 0x80) + (bit(error_in(unit), 0x08) + bit(broadcast_in(unit), 0x04))
+    status_bit(configure_in(unit), 0x80)
+        + (status_bit(error_in(unit), 0x08) + status_bit(broadcast_in(unit), 0x04))
 }
 
 // The mark's number is at most 2 where the numbers stand.
@@ -110,7 +111,7 @@ fn settle_write(unit: &mut [u8; UNIT], frame: Frame, outcome: Outcome)
         Pending::NoWrite => {}
         Pending::Waits(write) => {
             let owner = write.master;
-            if owner.0 == master.0 {
+            if owner.is(master) {
                 keep_write(unit, Pending::NoWrite);
             }
         }

@@ -3,7 +3,6 @@ mod broadcast;
 mod commands;
 mod dispatch;
 mod ending;
-mod lent;
 mod line;
 mod step;
 

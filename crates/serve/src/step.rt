@@ -11,7 +11,8 @@ pub struct Step {
     pub count: u16,
 }
 
-pub fn refused(outcome: Outcome) -> Step
+// It ends so, with no action and no data.
+pub fn plain_step(outcome: Outcome) -> Step
     ensures { λ r. ⌜ r ≡ record { outcome = outcome; action = Action.Rest; count = 0 } ⌝ }
 {
     Step {

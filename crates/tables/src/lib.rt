@@ -195,9 +195,6 @@ fn table_scan(unit: &[u8; UNIT], area: &[u8], k: u8, reply: &mut [u8]) -> Filled
     send(unit, area, one, two, own, reply)
 }
 
-// Nothing is done: an array that is lent as a slice tells its length.
-fn told_long(unit: &[u8]) {}
-
 pub fn scan<'a>(unit: &'a [u8; UNIT], frame: Frame, body: &'a [u8], reply: &mut [u8]) -> Filled
     ensures { λ r. ⌜ Fills (now (reply .entry)) (now (reply .exit))
         (inRoom (length (now (reply .entry)))
@@ -217,7 +214,7 @@ pub fn scan<'a>(unit: &'a [u8; UNIT], frame: Frame, body: &'a [u8], reply: &mut 
     if body.len() != 0 {
         return refused(Outcome::WrongCount);
     }
-    told_long(unit);
+    chars::told_long(unit);
     let fixed = layout::fixed_of(unit);
     table_scan(unit, &fixed[16..272], command % 16, reply)
 }

@@ -1,5 +1,4 @@
 // The entries of a unit, over all that its owner lends: fresh, a stretch, time, and the local events.
-mod lent;
 mod local;
 mod start;
 mod time;

@@ -1,5 +1,4 @@
 // A fresh unit: the configuration laid into its memory, and all that is kept. The characters of records need no clearing: none is counted.
-use super::lent::told_long;
 use layout::CONFIG;
 use layout::UNIT;
 ghost use mathlib.Core.Path.{_≡_};
@@ -20,7 +19,7 @@ fn zero(block: &mut [u8])
 pub fn fresh(unit: &mut [u8; UNIT], block: &mut [u8], config: &[u8; CONFIG])
     ensures { λ _. ⌜ FreshPromise (now (config .entry)) (length (now (block .entry))) (now (unit .exit)) (now (block .exit)) ⌝ }
 {
-    told_long(config);
+    chars::told_long(config);
     layout::begin(unit, config);
     layout::keep_clock(unit, 1, 0, 0, 0, 0);
     layout::keep_configure(unit, true);

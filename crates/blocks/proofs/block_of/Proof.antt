@@ -10,8 +10,8 @@ returns : tie.Need-returns
 unfolding blockOf
 returns c = simp (eq-eqb _ _ (c .if1 .taken))
 
-base-of-requires : tie.Need-base-of-requires
-base-of-requires c κs = search needs
+ordinal-start-requires : tie.Need-ordinal-start-requires
+ordinal-start-requires c κs = search needs
 
 piece-requires : tie.Need-piece-requires
 piece-requires c κs = search needs
@@ -21,7 +21,7 @@ unfolding blockOf baseOf
 returns-2 c =
     let is-0 = eq-eqb _ _ (c .before .if2 .taken) in
     let not-6 = ne-eqb _ _ (c .before .before .before .if1 .left) in
-    simp (not-6, is-0) (c .piece .ensures ∙ simp (c .before .before .base-of .ensures .0, is-0))
+    simp (not-6, is-0) (c .piece .ensures ∙ simp (c .before .before .ordinal-start .ensures .0, is-0))
 
 piece-requires-2 : tie.Need-piece-requires-2
 piece-requires-2 c κs = search needs
@@ -32,7 +32,7 @@ returns-3 c =
     let is-3 = eq-eqb _ _ (c .before .if3 .taken) in
     let not-0 = ne-eqb _ _ (c .before .before .if2 .left) in
     let not-6 = ne-eqb _ _ (c .before .before .before .before .if1 .left) in
-    simp (not-6, not-0, is-3) (c .piece2 .ensures ∙ simp (c .before .before .before .base-of .ensures .0, not-0, is-3))
+    simp (not-6, not-0, is-3) (c .piece2 .ensures ∙ simp (c .before .before .before .ordinal-start .ensures .0, not-0, is-3))
 
 piece-requires-3 : tie.Need-piece-requires-3
 piece-requires-3 c κs = search needs
@@ -44,7 +44,7 @@ returns-4 c =
     let not-3 = ne-eqb _ _ (c .before .before .if3 .left) in
     let not-0 = ne-eqb _ _ (c .before .before .before .if2 .left) in
     let not-6 = ne-eqb _ _ (c .before .before .before .before .before .if1 .left) in
-    simp (not-6, not-0, not-3, is-11) (c .piece3 .ensures ∙ simp (c .before .before .before .before .base-of .ensures .0, not-0, not-3))
+    simp (not-6, not-0, not-3, is-11) (c .piece3 .ensures ∙ simp (c .before .before .before .before .ordinal-start .ensures .0, not-0, not-3))
 
 sub-result : tie.Need-sub-result
 sub-result c = search needs
@@ -69,7 +69,7 @@ block-of-spec =
     tie.close
     (tie.spec
     returns
-    base-of-requires
+    ordinal-start-requires
     piece-requires
     returns-2
     piece-requires-2

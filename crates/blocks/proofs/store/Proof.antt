@@ -29,8 +29,8 @@ returns c =
     let in-block = judged-as _ _ _ _ _ _ _ _ (e .before .before .fixed-of .ensures) (e .reaches .ensures) (d .before .if1 .taken) in
     stored-block _ _ _ _ _ _ _ in-block (d .if2 .taken) (c .before .before .before .copy .ensures) (c .accepted .ensures)
 
-base-of-requires : tie.Need-base-of-requires
-base-of-requires c κs = search needs
+ordinal-start-requires : tie.Need-ordinal-start-requires
+ordinal-start-requires c κs = search needs
 
 add-put-fixed : tie.Need-add-put-fixed
 add-put-fixed c = search needs
@@ -49,10 +49,10 @@ returns-2 c =
     let d = c .before .before .before .before in
     let e = d .before .before in
     let in-block = judged-as _ _ _ _ _ _ _ _ (e .before .before .fixed-of .ensures) (e .reaches .ensures) (d .before .if1 .taken) in
-    stored-fixed _ _ _ _ _ _ _ _ in-block (d .if2 .left) (c .before .before .base-of .ensures .0) (c .before .put-fixed .ensures) (c .accepted2 .ensures)
+    stored-fixed _ _ _ _ _ _ _ _ in-block (d .if2 .left) (c .before .before .ordinal-start .ensures .0) (c .before .put-fixed .ensures) (c .accepted2 .ensures)
 
-refused-requires : tie.Need-refused-requires
-refused-requires c κs = search needs
+not-executed-requires : tie.Need-not-executed-requires
+not-executed-requires c κs = search needs
 
 same-length-3 : tie.Need-same-length-3
 same-length-3 c = search needs
@@ -61,7 +61,7 @@ returns-3 : tie.Need-returns-3
 returns-3 c =
     let e = c .before .before in
     let out = judged-as _ _ _ _ _ _ _ _ (e .before .before .fixed-of .ensures) (e .reaches .ensures) (c .before .if1 .left) in
-    not-stored _ _ _ _ _ _ out (c .refused .ensures)
+    not-stored _ _ _ _ _ _ out (c .not-executed .ensures)
 
 pub store-spec : {M : Type 1} → statement M
 store-spec =
@@ -74,12 +74,12 @@ store-spec =
     accepted-requires
     same-length
     returns
-    base-of-requires
+    ordinal-start-requires
     add-put-fixed
     put-fixed-requires
     accepted-requires-2
     same-length-2
     returns-2
-    refused-requires
+    not-executed-requires
     same-length-3
     returns-3)

@@ -1,7 +1,8 @@
 -- `blocks::waits_after` meets its contract.
-use borrow.Author.Tests.{le-leb, lt-leb}
-use Rattle.model.specs.Blocks.{waitsAfter}
+use mathlib.Core.Path.{sym, _∙_}
 use borrow.Author.Needs.{needs}
+use Rattle.model.specs.Blocks.{waitsAfter}
+use Rattle.model.proofs.Ages.{aged-lives, aged-over}
 use Rattle.blocks.proofs.waits_after.Statement.{statement}
 use Rattle.blocks.proofs.waits_after.Tie as tie
 
@@ -11,29 +12,32 @@ enum-told c = search needs
 enum-known-pending : tie.Need-enum-known-pending
 enum-known-pending c = search needs
 
-cast-age : tie.Need-cast-age
-cast-age c = search needs
+aged-requires : tie.Need-aged-requires
+aged-requires c κs = search needs
 
-add-age : tie.Need-add-age
-add-age c = search needs
+enum-known-age : tie.Need-enum-known-age
+enum-known-age c = search needs
 
-cast-if1 : tie.Need-cast-if1
-cast-if1 c = search needs
-
-cast-t11 : tie.Need-cast-t11
-cast-t11 c = search needs
+enum-told-2 : tie.Need-enum-told-2
+enum-told-2 c = search needs
 
 returns : tie.Need-returns
 unfolding waitsAfter
-returns c = simp (c .before .before .before .before .before .pending .given .1, le-leb _ _ (c .before .before .if1 .taken))
+returns c = simp (c .enum-told .given .1)
 
 returns-2 : tie.Need-returns-2
 unfolding waitsAfter
-returns-2 c = simp (c .enum-told .given .1)
+returns-2 c =
+    let d = c .before .before .before in
+    let l = aged-lives _ _ _ (sym (d .aged .ensures) ∙ c .before .age .given .1) in
+    simp (d .before .before .before .before .pending .given .1, l .0, l .1)
 
 returns-3 : tie.Need-returns-3
 unfolding waitsAfter
-returns-3 c = simp (c .before .before .before .pending .given .1, lt-leb _ _ (c .if1 .left))
+returns-3 c =
+    let d = c .before .before in
+    let o = aged-over _ _ (sym (d .aged .ensures) ∙ c .enum-told2 .given .1) in
+    simp (d .before .before .before .before .pending .given .1, o)
 
 pub waits-after-spec : {M : Type 1} → statement M
 waits-after-spec =
@@ -41,10 +45,9 @@ waits-after-spec =
     (tie.spec
     enum-told
     enum-known-pending
-    cast-age
-    add-age
-    cast-if1
-    cast-t11
+    aged-requires
+    enum-known-age
+    enum-told-2
     returns
     returns-2
     returns-3)

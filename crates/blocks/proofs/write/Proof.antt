@@ -1,7 +1,6 @@
 -- `blocks::write` meets its contract: the tests are those of the definition, in its order.
-use mathlib.Core.Path.{refl, sym}
+use mathlib.Core.Path.{refl, sym, _∙_}
 use borrow.Author.Tests.{eq-eqb, ne-eqb}
-use Rattle.model.specs.Control.{isOf}
 use Rattle.model.specs.Scan.{counts}
 use Rattle.model.specs.Blocks.{writeWhen, writeOf}
 use borrow.Author.Needs.{needs}
@@ -24,15 +23,18 @@ taken-requires c κs = search needs
 enum-known-pending : tie.Need-enum-known-pending
 enum-known-pending c = search needs
 
+is-requires : tie.Need-is-requires
+is-requires c κs = search needs
+
 taken-requires-2 : tie.Need-taken-requires-2
 taken-requires-2 c κs = search needs
 
 returns-2 : tie.Need-returns-2
-unfolding writeOf writeWhen counts isOf
+unfolding writeOf writeWhen counts
 returns-2 c =
-    let d = c .before .before .before .before .before .before in
+    let d = c .before .before .before .before .before in
     let three = eq-eqb _ _ (d .before .before .before .if1 .left) in
-    let own = eq-eqb _ _ (c .before .if2 .taken) in
+    let own = sym (c .before .before .is .ensures) ∙ c .before .if2 .taken in
     simp (three, d .pending .given .1, sym (d .before .before .master-of .ensures), own) (c .taken2 .ensures)
 
 returns-3 : tie.Need-returns-3
@@ -42,11 +44,11 @@ returns-3 c =
     simp (eq-eqb _ _ (d .before .if1 .left), c .before .enum-told .given .1, sym (d .master-of .ensures)) (c .taken .ensures)
 
 returns-4 : tie.Need-returns-4
-unfolding writeOf writeWhen counts isOf
+unfolding writeOf writeWhen counts
 returns-4 c =
-    let d = c .before .before .before .before .before in
+    let d = c .before .before .before .before in
     let three = eq-eqb _ _ (d .before .before .before .if1 .left) in
-    let other = ne-eqb _ _ (c .if2 .left) in
+    let other = sym (c .before .is .ensures) ∙ c .if2 .left in
     simp (three, d .pending .given .1, sym (d .before .before .master-of .ensures), other) (record { ended = refl; waiting = refl })
 
 pub write-spec : {M : Type 1} → statement M
@@ -58,6 +60,7 @@ write-spec =
     enum-told
     taken-requires
     enum-known-pending
+    is-requires
     taken-requires-2
     returns-2
     returns-3

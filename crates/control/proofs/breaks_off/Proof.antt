@@ -17,8 +17,8 @@ enum-known-hold c = search needs
 master-of-requires : tie.Need-master-of-requires
 master-of-requires c κs = search needs
 
-same-requires : tie.Need-same-requires
-same-requires c κs = search needs
+is-requires : tie.Need-is-requires
+is-requires c κs = search needs
 
 operates-with-requires : tie.Need-operates-with-requires
 operates-with-requires c κs = search needs
@@ -33,7 +33,7 @@ returns c =
     _
     (c .before .before .before .before .before .before .hold .given .1)
     (c .before .before .before .master-of .ensures)
-    (c .before .before .same .ensures)
+    (c .before .before .is .ensures)
     (c .before .if1 .taken)
     _
     (c .operates-with .ensures)
@@ -56,7 +56,7 @@ returns-4 c =
     _
     (c .before .before .before .before .before .hold .given .1)
     (c .before .before .master-of .ensures)
-    (c .before .same .ensures)
+    (c .before .is .ensures)
     (c .if1 .left)
 
 pub breaks-off-spec : {M : Type 1} → statement M
@@ -67,7 +67,7 @@ breaks-off-spec =
     enum-told-2
     enum-known-hold
     master-of-requires
-    same-requires
+    is-requires
     operates-with-requires
     returns
     returns-2

@@ -17,8 +17,8 @@ Inv-loop ds out₀ count i₀ out i = (i ≤ count) × (out ≡ put out₀ 0 (pa
 abbrev μ-loop : tie.MeasureT-loop
 μ-loop ds out₀ count i₀ out i = count - i
 
-least-requires : tie.Need-least-requires Inv-loop μ-loop
-least-requires c κs = search needs
+room-requires : tie.Need-room-requires Inv-loop μ-loop
+room-requires c κs = search needs
 
 loop-holds : tie.Need-loop-holds Inv-loop μ-loop
 loop-holds c = (omega arith, sym (copy-none _ _ _ _))
@@ -84,7 +84,7 @@ put-pairs-spec =
     (tie.spec
     Inv-loop
     μ-loop
-    least-requires
+    room-requires
     loop-holds
     mul-hex-value
     shared-slice-read-hex-value

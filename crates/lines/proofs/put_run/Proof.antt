@@ -16,26 +16,17 @@ sub-n c = search needs
 copy-requires : tie.Need-copy-requires
 copy-requires c κs = search needs
 
+room-requires : tie.Need-room-requires
+room-requires c κs = search needs
+
+add-result : tie.Need-add-result
+add-result c = search needs
+
 same-length : tie.Need-same-length
 same-length c = search needs
 
 returns-2 : tie.Need-returns-2
 returns-2 c = wrote-rest _ _ _ _ _ _ _ (c .before .before .before .copy .ensures) refl (omega arith)
-
-sub-least : tie.Need-sub-least
-sub-least c = search needs
-
-least-requires : tie.Need-least-requires
-least-requires c κs = search needs
-
-add-result : tie.Need-add-result
-add-result c = search needs
-
-same-length-2 : tie.Need-same-length-2
-same-length-2 c = search needs
-
-returns-3 : tie.Need-returns-3
-returns-3 c = wrote-rest _ _ _ _ _ _ _ (c .before .before .before .before .copy .ensures) refl (omega arith)
 
 pub put-run-spec : {M : Type 1} → statement M
 put-run-spec =
@@ -44,10 +35,7 @@ put-run-spec =
     returns
     sub-n
     copy-requires
-    same-length
-    returns-2
-    sub-least
-    least-requires
+    room-requires
     add-result
-    same-length-2
-    returns-3)
+    same-length
+    returns-2)

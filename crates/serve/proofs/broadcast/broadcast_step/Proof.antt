@@ -37,8 +37,8 @@ set-time-requires c κs = search needs
 timed-requires : tie.Need-timed-requires
 timed-requires c κs = search needs
 
-refused-requires : tie.Need-refused-requires
-refused-requires c κs = search needs
+plain-step-requires : tie.Need-plain-step-requires
+plain-step-requires c κs = search needs
 
 returns : tie.Need-returns
 returns c =
@@ -75,12 +75,12 @@ returns-3 c =
     let k = coreIn (numbersIn (s .args .unit .now)) in (
       λ block stands.
           let a = areasIn u block in
-          stirs-refused k a (broadcast-other (configIn u) k a q (c .before .before .if1 .taken) (c .before .match .rest .0 .1) (c .before .match .rest .1)) (c .refused .ensures) (readable-written _ stands) refl,
+          stirs-refused k a (broadcast-other (configIn u) k a q (c .before .before .if1 .taken) (c .before .match .rest .0 .1) (c .before .match .rest .1)) (c .plain-step .ensures) (readable-written _ stands) refl,
       unshifted u,
     )
 
-refused-requires-2 : tie.Need-refused-requires-2
-refused-requires-2 c κs = search needs
+plain-step-requires-2 : tie.Need-plain-step-requires-2
+plain-step-requires-2 c κs = search needs
 
 returns-4 : tie.Need-returns-4
 returns-4 c =
@@ -90,7 +90,7 @@ returns-4 c =
     let k = coreIn (numbersIn (s .args .unit .now)) in (
       λ block stands.
           let a = areasIn u block in
-          stirs-refused k a (broadcast-not (configIn u) k a q (c .before .if1 .left)) (c .refused2 .ensures) (readable-written _ stands) refl,
+          stirs-refused k a (broadcast-not (configIn u) k a q (c .before .if1 .left)) (c .plain-step2 .ensures) (readable-written _ stands) refl,
       unshifted u,
     )
 
@@ -105,9 +105,9 @@ broadcast-step-spec =
     clock-in-requires
     set-time-requires
     timed-requires
-    refused-requires
+    plain-step-requires
     returns
     returns-2
     returns-3
-    refused-requires-2
+    plain-step-requires-2
     returns-4)

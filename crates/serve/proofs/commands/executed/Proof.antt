@@ -30,8 +30,8 @@ unless-requires-2 c κs = search needs
 keep-error-requires : tie.Need-keep-error-requires
 keep-error-requires c κs = search needs
 
-refused-requires : tie.Need-refused-requires
-refused-requires c κs = search needs
+plain-step-requires : tie.Need-plain-step-requires
+plain-step-requires c κs = search needs
 
 returns : tie.Need-returns
 returns c =
@@ -41,7 +41,7 @@ returns c =
     let error = c .before .before .unless2 .ensures ∙ ap (λ (b : Bool). cond (s .args .done .clears) false b) (c .before .before .before .before .before .before .before .error-in .ensures) in
     let one = c .before .before .before .before .keep-configure .ensures in
     let two = c .before .keep-error .ensures in (
-      c .refused .ensures,
+      c .plain-step .ensures,
       (
         λ stands.
             subst (λ (k : Core). Written k (memoryIn ks) (portIn ks) (numbersIn (c .before .keep-error .last .0))) (λ i. withError (withConfigure (coreIn ks) (configure i)) (error i))
@@ -60,5 +60,5 @@ executed-spec =
     keep-configure-requires
     unless-requires-2
     keep-error-requires
-    refused-requires
+    plain-step-requires
     returns)

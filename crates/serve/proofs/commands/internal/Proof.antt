@@ -59,8 +59,8 @@ set-time-requires c κs = search needs
 timed-requires : tie.Need-timed-requires
 timed-requires c κs = search needs
 
-refused-requires : tie.Need-refused-requires
-refused-requires c κs = search needs
+plain-step-requires : tie.Need-plain-step-requires
+plain-step-requires c κs = search needs
 
 returns : tie.Need-returns
 returns c =
@@ -142,7 +142,7 @@ returns-6 c =
     let q = asked (s .args .frame) (s .args .body .now) in (
       λ fs stands.
           let i = innerBy (s .args .unit .now) (s .args .block .now) fs in
-          acts-refused i (internal-unknown (configIn u) i q (c .before .match .rest .0 .0 .0 .0 .1) (c .before .match .rest .0 .0 .0 .1) (c .before .match .rest .0 .0 .1) (c .before .match .rest .0 .1) (c .before .match .rest .1)) refl (c .refused .ensures)
+          acts-refused i (internal-unknown (configIn u) i q (c .before .match .rest .0 .0 .0 .0 .1) (c .before .match .rest .0 .0 .0 .1) (c .before .match .rest .0 .0 .1) (c .before .match .rest .0 .1) (c .before .match .rest .1)) refl (c .plain-step .ensures)
           (readable-written _ stands) refl,
       unshifted u,
     )
@@ -164,7 +164,7 @@ internal-spec =
     clock-in-requires
     set-time-requires
     timed-requires
-    refused-requires
+    plain-step-requires
     returns
     same-length
     returns-2

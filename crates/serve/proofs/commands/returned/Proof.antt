@@ -27,8 +27,8 @@ read-time-requires c κs = search needs
 scanned-requires-2 : tie.Need-scanned-requires-2
 scanned-requires-2 c κs = search needs
 
-refused-requires : tie.Need-refused-requires
-refused-requires c κs = search needs
+plain-step-requires : tie.Need-plain-step-requires
+plain-step-requires c κs = search needs
 
 same-length : tie.Need-same-length
 same-length c = search needs
@@ -59,7 +59,7 @@ returns-3 c =
     λ fs stands.
     let q = asked (s .args .frame) (s .args .body .now) in
     let i = innerBy (s .args .unit .now) (s .args .block .now) fs in
-    acts-refused i (return-unknown i q (c .before .match .rest .0 .1) (c .before .match .rest .1)) refl (c .refused .ensures) (readable-written _ stands) refl
+    acts-refused i (return-unknown i q (c .before .match .rest .0 .1) (c .before .match .rest .1)) refl (c .plain-step .ensures) (readable-written _ stands) refl
 
 pub returned-spec : {M : Type 1} → statement M
 returned-spec =
@@ -70,7 +70,7 @@ returned-spec =
     clock-in-requires
     read-time-requires
     scanned-requires-2
-    refused-requires
+    plain-step-requires
     same-length
     returns
     same-length-2

@@ -9,18 +9,18 @@ use Rattle.serve.proofs.commands.timed.Tie as tie
 keep-clock-requires : tie.Need-keep-clock-requires
 keep-clock-requires c κs = search needs
 
-refused-requires : tie.Need-refused-requires
-refused-requires c κs = search needs
+plain-step-requires : tie.Need-plain-step-requires
+plain-step-requires c κs = search needs
 
 returns : tie.Need-returns
 returns c =
     let kept = c .before .keep-clock .ensures in
-    (c .refused .ensures, (λ stands. clock-written (readable-written _ stands) (numbers-left _ _ (kept .0), kept .1, kept .2, kept .3), numbers-only _ _ (kept .0)))
+    (c .plain-step .ensures, (λ stands. clock-written (readable-written _ stands) (numbers-left _ _ (kept .0), kept .1, kept .2, kept .3), numbers-only _ _ (kept .0)))
 
 pub timed-spec : {M : Type 1} → statement M
 timed-spec =
     tie.close
     (tie.spec
     keep-clock-requires
-    refused-requires
+    plain-step-requires
     returns)

@@ -32,8 +32,8 @@ breaks-off-requires c κs = search needs
 keep-hold-requires : tie.Need-keep-hold-requires
 keep-hold-requires c κs = search needs
 
-refused-requires : tie.Need-refused-requires
-refused-requires c κs = search needs
+plain-step-requires : tie.Need-plain-step-requires
+plain-step-requires c κs = search needs
 
 returns : tie.Need-returns
 unfolding brokenOff coreIn
@@ -49,7 +49,7 @@ returns c =
     let only = numbers-only _ _ (held .0) in (
       λ y stands.
           rw (unshifted-numbers u _ only .counts)
-          (acted-still (alone-stays i _ z) (acts-refused i z refl (c .refused .ensures) (hold-written (readable-written ks stands) (numbers-left _ _ (held .0), held .1)) (numbers-kept u _ _ only))),
+          (acted-still (alone-stays i _ z) (acts-refused i z refl (c .plain-step .ensures) (hold-written (readable-written ks stands) (numbers-left _ _ (held .0), held .1)) (numbers-kept u _ _ only))),
       unshifted-numbers u _ only .steady,
     )
 
@@ -92,8 +92,8 @@ internal-requires c κs = search needs
 returned-requires : tie.Need-returned-requires
 returned-requires c κs = search needs
 
-refused-requires-2 : tie.Need-refused-requires-2
-refused-requires-2 c κs = search needs
+plain-step-requires-2 : tie.Need-plain-step-requires-2
+plain-step-requires-2 c κs = search needs
 
 same-length : tie.Need-same-length
 same-length c = search needs
@@ -244,7 +244,7 @@ returns-9 c =
     let m = c .before .match .rest in
     let z = step-unknown (configIn u) i q b (m .0 .0 .0 .0 .0 .0 .1) (m .0 .0 .0 .0 .0 .1) (m .0 .0 .0 .0 .1) (m .0 .0 .0 .1) (m .0 .0 .1) (m .0 .1) (m .1) in (
       λ y stands.
-          acted-still (alone-stays i _ z) (acts-refused i z refl (c .refused2 .ensures) (readable-written ks stands) refl),
+          acted-still (alone-stays i _ z) (acts-refused i z refl (c .plain-step2 .ensures) (readable-written ks stands) refl),
       steady-same u,
     )
 
@@ -256,7 +256,7 @@ act-spec =
     hold-kept-requires
     breaks-off-requires
     keep-hold-requires
-    refused-requires
+    plain-step-requires
     returns
     scan-requires
     scanned-requires
@@ -271,7 +271,7 @@ act-spec =
     controlled-requires
     internal-requires
     returned-requires
-    refused-requires-2
+    plain-step-requires-2
     same-length
     returns-2
     same-length-2

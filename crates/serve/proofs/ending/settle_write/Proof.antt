@@ -3,7 +3,6 @@ use mathlib.Core.Path.{sym, _∙_}
 use Rattle.layout.proofs.UnitLaws.{numbers-left, numbers-only, renumbered-same}
 use borrow.Author.Needs.{needs}
 use borrow.Author.Tests.{eq-eqb, ne-eqb}
-use Rattle.model.specs.Control.{isOf}
 use Rattle.model.specs.Blocks.{dropped}
 use Rattle.layout.specs.Numbers.{coreIn}
 use Rattle.layout.proofs.NumbersLaws.{readable-written}
@@ -29,6 +28,9 @@ enum-told c = search needs
 enum-known-pending : tie.Need-enum-known-pending
 enum-known-pending c = search needs
 
+is-requires : tie.Need-is-requires
+is-requires c κs = search needs
+
 keep-write-requires : tie.Need-keep-write-requires
 keep-write-requires c κs = search needs
 
@@ -42,25 +44,31 @@ returns-2 c = (
 )
 
 returns-3 : tie.Need-returns-3
-unfolding dropped isOf coreIn
-returns-3 c = (
-  λ stands.
-      let waits = sym (c .before .before .before .before .before .before .before .before .before .write-kept .ensures) ∙ c .before .before .before .before .before .before .before .pending .given .1 in
-      rw (← (c .before .before .before .before .before .before .before .before .before .before .before .before .before .number .ensures), ne-eqb _ _ (c .before .before .before .before .before .before .before .before .before .before .before .before .if1 .left), waits, ← (c .before .before .before .before .before .before .before .before .before .before .before .master-of .ensures), eq-eqb _ _ (c .before .before .if2 .taken))
-      (write-written (readable-written _ stands) (numbers-left _ _ (c .keep-write .ensures .0), c .keep-write .ensures .1)),
-  numbers-only _ _ (c .keep-write .ensures .0),
-)
+unfolding dropped coreIn
+returns-3 c =
+    let w = c .before .before .before .before .before .before in
+    let m = w .before .before .before .before in
+    let own = sym (c .before .before .before .is .ensures) ∙ c .before .before .if2 .taken in (
+      λ stands.
+          let waits = sym (w .before .before .write-kept .ensures) ∙ w .pending .given .1 in
+          rw (← (m .before .before .number .ensures), ne-eqb _ _ (m .before .if1 .left), waits, ← (m .master-of .ensures), own)
+          (write-written (readable-written _ stands) (numbers-left _ _ (c .keep-write .ensures .0), c .keep-write .ensures .1)),
+      numbers-only _ _ (c .keep-write .ensures .0),
+    )
 
 returns-4 : tie.Need-returns-4
-unfolding dropped isOf coreIn
-returns-4 c = (
-  λ stands.
-      let waits = sym (c .before .before .before .before .before .before .before .write-kept .ensures) ∙ c .before .before .before .before .before .pending .given .1 in
-      rw (← (c .before .before .before .before .before .before .before .before .before .before .before .number .ensures), ne-eqb _ _ (c .before .before .before .before .before .before .before .before .before .before .if1 .left), waits, ← (c .before .before .before .before .before .before .before .before .before .master-of .ensures), ne-eqb _ _ (c .if2 .left))
-      (rw waits at (readable-written _ stands)),
-  renumbered-same _,
-)
+unfolding dropped coreIn
+returns-4 c =
+    let w = c .before .before .before .before in
+    let m = w .before .before .before .before in
+    let other = sym (c .before .is .ensures) ∙ c .if2 .left in (
+      λ stands.
+          let waits = sym (w .before .before .write-kept .ensures) ∙ w .pending .given .1 in
+          rw (← (m .before .before .number .ensures), ne-eqb _ _ (m .before .if1 .left), waits, ← (m .master-of .ensures), other)
+          (rw waits at (readable-written _ stands)),
+      renumbered-same _,
+    )
 
 pub settle-write-spec : {M : Type 1} → statement M
 settle-write-spec =
-    tie.close (tie.spec number-requires returns master-of-requires write-kept-requires enum-told enum-known-pending keep-write-requires returns-2 returns-3 returns-4)
+    tie.close (tie.spec number-requires returns master-of-requires write-kept-requires enum-told enum-known-pending is-requires keep-write-requires returns-2 returns-3 returns-4)

@@ -1,9 +1,9 @@
--- `blocks::base_of` meets its contract.
+-- `blocks::ordinal_start` meets its contract.
 use native.Mathlib.Omega.{arith}
 use borrow.Author.Tests.{eq-eqb, ne-eqb}
 use Rattle.model.specs.Blocks.{baseOf}
-use Rattle.blocks.proofs.base_of.Statement.{statement}
-use Rattle.blocks.proofs.base_of.Tie as tie
+use Rattle.blocks.proofs.ordinal_start.Statement.{statement}
+use Rattle.blocks.proofs.ordinal_start.Tie as tie
 
 returns : tie.Need-returns
 unfolding baseOf
@@ -17,5 +17,5 @@ returns-3 : tie.Need-returns-3
 unfolding baseOf
 returns-3 c = (simp (ne-eqb _ _ (c .match .rest .0 .1), ne-eqb _ _ (c .match .rest .1)), omega arith)
 
-pub base-of-spec : {M : Type 1} → statement M
-base-of-spec = tie.close (tie.spec returns returns-2 returns-3)
+pub ordinal-start-spec : {M : Type 1} → statement M
+ordinal-start-spec = tie.close (tie.spec returns returns-2 returns-3)
