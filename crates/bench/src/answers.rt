@@ -1,23 +1,20 @@
 // The bench unit, and its answer to a line.
 use super::flow;
 use super::flow::Flow;
-use frames::outcomes;
+use frames::outcomes::number;
 use layout::CONFIG;
 use layout::UNIT;
 use lines::Line;
 use model::Input;
+use model::Outcome;
+use model::Reply;
+use serve::Made;
 ghost use mathlib.Core.Path.{_≡_};
 ghost use Prim.Native.Nat.{_+_, _≤_, _<_};
 ghost use lib.ListN.{length};
 ghost use Rattle.model.specs.Bench.{benchConfig};
 ghost use Rattle.layout.specs.Unit.{configGiven};
 ghost use Rattle.bench.specs.Flow.{Flows};
-
-// How a line ended: the outcome, and how many characters the unit sent.
-pub struct Ended {
-    pub outcome: u8,
-    pub sent: usize,
-}
 
 // Unit 1234 with inputs 30h and 40h, and nothing else.
 pub fn configured() -> [u8; CONFIG]
@@ -36,42 +33,29 @@ fn hear<'a>(
     records: &mut [u8],
     heard: &'a [u8],
     n: usize,
-    reply: &mut [u8],
-) -> Ended
+    buffer: &mut [u8],
+) -> Made
     requires { ⌜ n ≤ length (now heard) ⌝ }
-    ensures { λ r. ⌜ r .sent ≤ length (now (reply .entry)) ⌝ }
 {
     let mut block = [0u8; 0];
-    let turn = unit::stretch(unit, &mut block, records, reply, &heard[..n]);
-    let outcome = turn.outcome;
-    Ended {
-        outcome: outcomes::number(outcome),
-        sent: turn.sent,
-    }
+    unit::stretch(unit, &mut block, records, buffer, &heard[..n])
 }
 
-fn wait<'a>(unit: &mut [u8; UNIT], records: &'a [u8], ms: u32) -> Ended
-    ensures { λ r. ⌜ r .sent ≡ 0 ⌝ }
-{
+fn wait<'a>(unit: &mut [u8; UNIT], records: &'a [u8], ms: u32) -> Outcome {
     let block = [0u8; 0];
-    let outcome = unit::elapsed(unit, &block, records, ms);
-    Ended {
-        outcome: outcomes::number(outcome),
-        sent: 0,
-    }
+    unit::elapsed(unit, &block, records, ms)
 }
 
-fn show(shown: &mut [u8], flow: Flow, ended: Ended, reply: &[u8]) -> Flow
-    requires { ⌜ Flows flow × (flow .number + 1 < 18446744073709551616) × (length (now shown) ≡ 65536) × (ended .sent ≤ length (now reply)) ⌝ }
+fn show(shown: &mut [u8], flow: Flow, outcome: Outcome, reply: &[u8]) -> Flow
+    requires { ⌜ Flows flow × (flow .number + 1 < 18446744073709551616) × (length (now shown) ≡ 65536) ⌝ }
     ensures { λ r. ⌜ Flows r × (r .number ≡ flow .number + 1) × (r .length ≡ 0) ⌝ }
 {
     let waiting = flow.waiting;
-    let sent = ended.sent;
     let count = lines::write_line(
         &mut shown[waiting..],
         flow.number + 1,
-        ended.outcome,
-        &reply[..sent],
+        number(outcome),
+        reply,
     );
     flow::answered(flow, count)
 }
@@ -97,17 +81,19 @@ pub fn answer<'a>(
     ensures { λ r. ⌜ Flows r × (r .number ≡ flow .number + 1) × (r .length ≡ 0) ⌝ }
 {
     let mut heard = [0u8; 999];
-    let mut reply = [0u8; 520];
+    let mut buffer = [0u8; Reply::LONGEST];
     let long = flow.length;
     let said = lines::read_line(&line[..long], &mut heard);
     match said {
         Line::Stretch(n) => {
-            let ended = hear(unit, records, &heard, n, &mut reply);
-            show(shown, flow, ended, &reply)
+            let made = hear(unit, records, &heard, n, &mut buffer);
+            let outcome = made.outcome;
+            let reply = unit::reply(&mut buffer, made);
+            show(shown, flow, outcome, reply)
         }
         Line::Time(ms) => {
-            let ended = wait(unit, records, ms);
-            show(shown, flow, ended, &reply)
+            let outcome = wait(unit, records, ms);
+            show(shown, flow, outcome, &buffer[..0])
         }
         Line::Other => show_other(shown, flow),
     }

@@ -1,4 +1,4 @@
--- Laws of a reply laid round its data in a buffer: head, then check characters, and the front part that they fill.
+-- Laws of a reply laid round its data in a buffer: head, then check characters.
 -- Assumes nothing.
 use mathlib.Core.Path.{_≡_, refl, sym, ap, _∙_}
 use Prim.Native.Nat.{ℕ, zero, suc, _+_, _<_, _≤_}
@@ -7,7 +7,7 @@ use mathlib.Core.List.{List, [], _∷_, _++_}
 use mathlib.Core.Bool.{Bool, true, false, cond}
 use lib.ListN.{length, take, length-append}
 use lib.Dec.{leb}
-use borrow.Author.Tests.{leb-true, le-leb, lt-leb}
+use borrow.Author.Tests.{le-leb, lt-leb}
 use Rattle.chars.specs.Put.{put, part}
 use Rattle.chars.specs.Word.{word}
 use Rattle.chars.proofs.PutLaws.{put-own, length-put, put-none, put-under, put-then, take-put-front, length-part}
@@ -81,19 +81,3 @@ module _ (entry : List ℕ) (r : Reply) where
       framed-put v bs e b =
           rw framed-some
           (put-then entry us bs 0 (7 + r .count) front (word (checkOf front)) head-front (omega (arith, length-front)) (rw (e, front-read) at b))
-
-  framed-fits : length (framedIn entry r) ≤ length entry
-  framed-fits = go (leb (7 + r .count + 2) (length entry)) refl
-    where
-      go : (t : Bool) → leb (7 + r .count + 2) (length entry) ≡ t → length (framedIn entry r) ≤ length entry
-      go true e = let h = leb-true (7 + r .count + 2) (length entry) e in omega (arith, framed-long h)
-      go false e = unfold framedIn in (rw e (omega arith))
-
-  -- the length n that was answered, and the buffer bs as it is then
-  module _ (n : ℕ) (bs : List ℕ) (a : n ≡ length (framedIn entry r)) (b : bs ≡ put entry 0 (framedIn entry r)) where
-    pub filled-fits : n ≤ length bs
-    filled-fits = omega (arith, a, framed-fits, ap length b, length-put entry 0 (framedIn entry r))
-
-    -- the front part of that length is the reply
-    pub filled-front : take n bs ≡ framedIn entry r
-    filled-front = rw (a, b) (take-put-front entry (framedIn entry r) framed-fits)

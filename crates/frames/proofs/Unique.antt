@@ -7,7 +7,6 @@ use Rattle.frames.proofs.address_of.Reads as address-of
 use Rattle.frames.proofs.hear.Reads as hear
 use Rattle.frames.proofs.data_of.Reads as data-of
 use Rattle.frames.proofs.fill.Reads as fill
-use Rattle.frames.proofs.reply.Reads as reply
 use Rattle.frames.proofs.outcomes.number.Reads as number
 use Rattle.frames.proofs.outcomes.sending.Reads as sending
 use Rattle.frames.proofs.outcomes.is_answered.Reads as is-answered
@@ -34,9 +33,6 @@ one-fill κ a x y s t p q = p .0 ∙ sym (q .0)
 
 pub one-fill-buffer : One fill.Post (λ κ r s. s .0 .now)
 one-fill-buffer κ a x y s t p q = p .1 ∙ sym (q .1)
-
-pub one-reply : One reply.Post (λ κ r s. r .now)
-one-reply κ a x y s t p q = p .0 ∙ sym (q .0)
 
 pub one-number : One number.Post (λ κ r s. r)
 one-number κ a x y s t p q = p ∙ sym q

@@ -99,12 +99,3 @@ pub fn fill(buffer: &mut [u8], head: Reply) -> usize
     put_word(buffer, end, check);
     end + 2
 }
-
-// The filled front part of the caller's slice. That the rest is not written stands at `fill`: of a slice that is spent on its
-// part no contract can tell the end.
-pub fn reply<'a>(buffer: &'a mut [u8], head: Reply) -> &'a mut [u8]
-    ensures { λ r. ⌜ (now r ≡ framedIn (now (buffer .entry)) head) × (r .ptr ≡ buffer .entry .ptr) ⌝ }
-{
-    let n = fill(&mut *buffer, head);
-    &mut buffer[..n]
-}

@@ -7,7 +7,7 @@ use mathlib.Core.Bool.{true, false}
 use lib.ListN.{length}
 use borrow.Author.Tests.{eq-eqb, ne-eqb, lt-ltb, le-ltb}
 use Rattle.chars.specs.Put.{put, part}
-use Rattle.chars.proofs.PutLaws.{put-none}
+use Rattle.chars.proofs.PutLaws.{put-none, take-put-front}
 use Rattle.model.specs.Limits.{shortestFrame, longestReply}
 use Rattle.model.specs.Frame.{asked, unitOf, broadcastUnit, heardOf, requestIn}
 use Rattle.model.specs.Config.{Config}
@@ -15,7 +15,7 @@ use Rattle.model.specs.State.{Areas, Files, Inner}
 use Rattle.model.specs.Fits.{fits}
 use Rattle.model.specs.Step.{Made, quiet, served, broadcastOf, broadcastMade, framed, judged, makeOf}
 use Rattle.model.specs.Port.{portHeard, portAfter}
-use Rattle.model.specs.Run.{short, Result, turnedAway, shows, moves, decided, changeOf}
+use Rattle.model.specs.Run.{short, Result, turnedAway, shows, moves, decided, resultOf, changeOf}
 use Rattle.model.specs.declared.Outcome.the-variants.{NotWhole, CheckWrong, OtherUnit, NotConfigured, BufferShort}
 use Rattle.model.specs.declared.Action.the-variants.{Rest}
 use Rattle.model.specs.declared.Frame.{Frame}
@@ -220,3 +220,9 @@ stretch-made s x entry y {exit} m g l b v steady =
 -- what is to be sent lies in the buffer
 pub sent-inside : (s : List ℕ) (x y : Owned) {entry exit : List ℕ} {r : MadeOf} → StretchPromise s x y entry exit r → r .sent ≤ length entry
 sent-inside s x y h = by-bool (standing x) (λ e. h .read e .turns .inside) (λ e. rw (h .unread e .shown) (omega arith))
+
+-- and what `reply` then hands back is the definition's reply (Frames 17)
+pub handed-back : (c : Config) (s : List ℕ) (k l : Kept) {entry exit : List ℕ} {r : MadeOf} → Turns c s k l entry exit r
+    → part exit 0 (r .sent) ≡ resultOf c (stateOf c k) (coming entry s) .reply
+unfolding part
+handed-back c s k l {entry} t = rw (t .counted, t .written) (take-put-front entry (resultOf c (stateOf c k) (coming entry s) .reply) (omega (arith, t .inside, t .counted)))

@@ -6,7 +6,7 @@ use mathlib.Core.Bool.{true}
 use Prim.Native.Nat.{ℕ}
 use lib.ListN.{length}
 use Rattle.chars.specs.Word.{Characters}
-use Rattle.chars.specs.One.{OneWhere}
+use Rattle.chars.specs.One.{One, OneWhere}
 use Rattle.model.specs.Config.{Config}
 use Rattle.model.specs.State.{State}
 use Rattle.model.specs.declared.Outcome.{Outcome}
@@ -20,6 +20,7 @@ use Rattle.serve.specs.Stretch.{Served, StretchPromise}
 use Rattle.serve.specs.declared.Made.{Made}
 use Rattle.serve.proofs.FitLaws.{stands-readable}
 use Rattle.serve.proofs.line.stretch.Reads as stretch
+use Rattle.serve.proofs.handed.reply.Reads as reply
 
 -- all that is kept follows from the state, and from the lent characters and counts of the files
 pub kept-same : (c : Config) (l m : Kept) → stateOf c l ≡ stateOf c m → l .area ≡ m .area → l .counts ≡ m .counts → l ≡ m
@@ -66,6 +67,11 @@ module _ (s : List ℕ) (x y z : Owned) (entry : List ℕ) {exit exit′ : List 
       by-bool (standing x) (λ e. one-served (a .read e) (b .read e))
       (λ e. let u = a .unread e in let v = b .unread e in
       (u .shown ∙ sym (v .shown), u .written ∙ sym (v .written), u .owned ∙ sym (v .owned)))
+
+-- ---- the contract of `reply`
+
+pub one-reply : One reply.Post (λ κ r s. r .now)
+one-reply κ a x y s t p q = p .0 ∙ sym (q .0)
 
 -- ---- the contract of `stretch`, for a memory that is characters, as long as a unit
 

@@ -3,9 +3,11 @@ mod broadcast;
 mod commands;
 mod dispatch;
 mod ending;
+mod handed;
 mod line;
 mod step;
 
+pub use handed::reply;
 pub use line::stretch;
 use model::Action;
 use model::Outcome;

@@ -7,6 +7,7 @@ pub use local::pulses;
 pub use local::set_value;
 pub use local::set_word;
 pub use local::store_record;
+pub use serve::reply;
 pub use serve::stretch;
 pub use start::fresh;
 pub use time::elapsed;

@@ -30,13 +30,14 @@ hear-requires c κs =
     let h = stretch-long _ _ (sym (c .before .before .before .before .before .before .before .before .read-line .ensures .0) ∙ c .before .before .before .before .before .said .given .1) in
     omega (arith, h .1)
 
-slice-aggregate-show : tie.Need-slice-aggregate-show
-slice-aggregate-show c = search needs
+slice-aggregate-reply : tie.Need-slice-aggregate-reply
+slice-aggregate-reply c = search needs
+
+reply-requires : tie.Need-reply-requires
+reply-requires c κs = search needs
 
 show-requires : tie.Need-show-requires
-show-requires c κs =
-    let p = c .before .before .before .before .before .before .before .before .before .before .before .before .before .before .before .before .before .before .before .before .pre in
-    (p .0, p .1, p .3, omega (arith, c .before .before .before .before .before .hear .ensures))
+show-requires c κs = search needs
 
 enum-known-said-2 : tie.Need-enum-known-said-2
 enum-known-said-2 c = search needs
@@ -44,8 +45,11 @@ enum-known-said-2 c = search needs
 wait-requires : tie.Need-wait-requires
 wait-requires c κs = search needs
 
-slice-aggregate-show-2 : tie.Need-slice-aggregate-show-2
-slice-aggregate-show-2 c = search needs
+array-share-prefix-buffer : tie.Need-array-share-prefix-buffer
+array-share-prefix-buffer c = search needs
+
+slice-aggregate-show : tie.Need-slice-aggregate-show
+slice-aggregate-show c = search needs
 
 show-requires-2 : tie.Need-show-requires-2
 show-requires-2 c κs = search needs
@@ -91,11 +95,13 @@ answer-spec =
     slice-aggregate-hear
     slice-aggregate-hear-2
     hear-requires
-    slice-aggregate-show
+    slice-aggregate-reply
+    reply-requires
     show-requires
     enum-known-said-2
     wait-requires
-    slice-aggregate-show-2
+    array-share-prefix-buffer
+    slice-aggregate-show
     show-requires-2
     enum-told
     show-other-requires

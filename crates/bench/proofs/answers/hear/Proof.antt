@@ -1,8 +1,7 @@
--- `bench::answers::hear` is safe and ends: the stretch is as long as it says, and what is sent lies in the buffer.
+-- `bench::answers::hear` is safe and ends: the stretch is as long as it says.
 use mathlib.Core.Path.{sym}
 use lib.Seq.{length-take-le}
 use native.Mathlib.Omega.{arith}
-use Rattle.serve.proofs.StretchLaws.{sent-inside}
 use borrow.Author.Needs.{needs}
 use Rattle.bench.proofs.answers.hear.Statement.{statement}
 use Rattle.bench.proofs.answers.hear.Tie as tie
@@ -16,9 +15,6 @@ slice-aggregate-stretch-2 c = sym (length-take-le _ _ (omega arith))
 stretch-requires : tie.Need-stretch-requires
 stretch-requires c κs = search needs
 
-number-requires : tie.Need-number-requires
-number-requires c κs = search needs
-
 same-length : tie.Need-same-length
 same-length c = search needs
 
@@ -26,7 +22,7 @@ same-length-2 : tie.Need-same-length-2
 same-length-2 c = search needs
 
 returns : tie.Need-returns
-returns c = sent-inside _ _ _ (c .before .before .before .before .before .before .stretch .ensures)
+returns c = search needs
 
 pub hear-spec : {M : Type 1} → statement M
 hear-spec =
@@ -35,7 +31,6 @@ hear-spec =
     slice-aggregate-stretch
     slice-aggregate-stretch-2
     stretch-requires
-    number-requires
     same-length
     same-length-2
     returns)
