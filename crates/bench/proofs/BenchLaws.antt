@@ -7,10 +7,10 @@ use Rattle.chars.specs.Put.{put}
 use Rattle.chars.specs.Word.{word, wordAt}
 use Rattle.model.specs.Bench.{benchConfig}
 use Rattle.layout.specs.Regions.{startIn, regionIn}
-use Rattle.layout.specs.Unit.{configOf, configGiven, nameUnit, equipInput}
+use Rattle.layout.specs.Unit.{configFrom, configGiven, nameUnit, equipInput}
 
 computed : configGiven (equipInput (equipInput (nameUnit (replicate 836 0) 1234) 0x30) 0x40) ≡ benchConfig
-unfolding put word wordAt benchConfig startIn regionIn configOf
+unfolding put word wordAt benchConfig startIn regionIn configFrom
 computed = refl
 
 pub bench-given : {a b r : List ℕ} → a ≡ nameUnit (replicate 836 0) 1234 → b ≡ equipInput a 0x30 → r ≡ equipInput b 0x40 → configGiven r ≡ benchConfig

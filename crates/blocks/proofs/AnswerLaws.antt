@@ -13,7 +13,7 @@ use Rattle.chars.proofs.PutLaws.{length-part, part-whole}
 use Rattle.model.specs.Limits.{replyHead, mostAsked}
 use Rattle.model.specs.Frame.{Request}
 use Rattle.model.specs.Scan.{Fills, counts}
-use Rattle.model.specs.Blocks.{baseOf, blockOf, reaches, notExecuted, executes, returned, readOf}
+use Rattle.model.specs.Blocks.{ordinalStart, blockOf, reaches, notExecuted, executes, returned, readOf}
 use Rattle.model.specs.declared.Outcome.{Outcome}
 use Rattle.model.specs.declared.Outcome.the-variants.{Done, NotValid}
 use Rattle.layout.specs.Unit.{unitIn, putFixed}
@@ -58,7 +58,7 @@ module _ (u block : List ℕ) (o bias : ℕ) (ys : List ℕ) (r : Executed) wher
         block-left = k ∙ ap (put block bias) (part-whole ys (length ys) refl);
       })
 
-  pub stored-fixed : (v : List ℕ) (base : ℕ) → reaches (unitIn u .fixed) block o bias (length ys) ≡ true → (o ≡ 0x06 → ⊥) → base ≡ baseOf o
+  pub stored-fixed : (v : List ℕ) (base : ℕ) → reaches (unitIn u .fixed) block o bias (length ys) ≡ true → (o ≡ 0x06 → ⊥) → base ≡ ordinalStart o
       → v ≡ putFixed u (base + bias) ys → Accepted o r
       → ExecutesAs u (executes (unitIn u .fixed) block o bias ys) v block r
   unfolding executes

@@ -12,7 +12,7 @@ use lib.Dec.{eqb}
 use borrow.Author.Tests.{leb-true, ne-eqb}
 use Rattle.chars.specs.Put.{put, part}
 use Rattle.chars.proofs.PutLaws.{drop-put-in, part-put, part-put-before, part-put-after, part-most}
-use Rattle.model.specs.Blocks.{known, baseOf, blockOf, reaches, executes}
+use Rattle.model.specs.Blocks.{known, ordinalStart, blockOf, reaches, executes}
 use Rattle.layout.proofs.RegionLaws.{take-put-in}
 use Rattle.model.proofs.Conditions.{by-eqb, and-left, and-right, false-true}
 
@@ -78,7 +78,7 @@ no-block fixed block h =
 module _ (fixed block : List ℕ) (o bias : ℕ) (ys : List ℕ) where
   -- both areas after it
   fixedAfter : List ℕ
-  fixedAfter = cond (eqb o 0x06) fixed (put fixed (baseOf o + bias) ys)
+  fixedAfter = cond (eqb o 0x06) fixed (put fixed (ordinalStart o + bias) ys)
 
   blockAfter : List ℕ
   blockAfter = cond (eqb o 0x06) (put block bias ys) block
@@ -88,7 +88,7 @@ module _ (fixed block : List ℕ) (bias : ℕ) (ys : List ℕ) where
   Own o = blockOf (fixedAfter fixed block o bias ys) (blockAfter fixed block o bias ys) o ≡ put (blockOf fixed block o) bias ys
 
   own : (o : ℕ) → known o ≡ true → Own o
-  unfolding Own fixedAfter blockAfter blockOf baseOf
+  unfolding Own fixedAfter blockAfter blockOf ordinalStart
   own o k = by-known Own o k (part-put-in fixed 0 16 bias ys) (part-put-in fixed 16 256 bias ys) refl (part-put-in fixed 272 256 bias ys)
 
   -- a run within o's block
@@ -108,7 +108,7 @@ module _ (fixed block : List ℕ) (bias : ℕ) (ys : List ℕ) where
   none o p m h n = no-block _ _ m ∙ sym (no-block fixed block m)
 
   of-00 : (p : ℕ) → Other 0x00 p
-  unfolding Other Inside fixedAfter blockAfter blockOf baseOf
+  unfolding Other Inside fixedAfter blockAfter blockOf ordinalStart
   of-00 p =
       by-ordinal (Other 0x00) p (same 0x00)
       (λ h n. part-put-after fixed (0 + bias) ys 16 256 (omega (arith, part-most fixed 0 16)))
@@ -117,7 +117,7 @@ module _ (fixed block : List ℕ) (bias : ℕ) (ys : List ℕ) where
       (none 0x00 p)
 
   of-03 : (p : ℕ) → Other 0x03 p
-  unfolding Other Inside fixedAfter blockAfter blockOf baseOf
+  unfolding Other Inside fixedAfter blockAfter blockOf ordinalStart
   of-03 p =
       by-ordinal (Other 0x03) p (λ h n. part-put-before fixed (16 + bias) ys 0 16 (omega arith)) (same 0x03)
       (λ h n. refl)
@@ -125,11 +125,11 @@ module _ (fixed block : List ℕ) (bias : ℕ) (ys : List ℕ) where
       (none 0x03 p)
 
   of-06 : (p : ℕ) → Other 0x06 p
-  unfolding Other Inside fixedAfter blockAfter blockOf baseOf
+  unfolding Other Inside fixedAfter blockAfter blockOf ordinalStart
   of-06 p = by-ordinal (Other 0x06) p (λ h n. refl) (λ h n. refl) (same 0x06) (λ h n. refl) (none 0x06 p)
 
   of-0B : (p : ℕ) → Other 0x0B p
-  unfolding Other Inside fixedAfter blockAfter blockOf baseOf
+  unfolding Other Inside fixedAfter blockAfter blockOf ordinalStart
   of-0B p =
       by-ordinal (Other 0x0B) p
       (λ h n. part-put-before fixed (272 + bias) ys 0 16 (omega arith))
@@ -152,15 +152,15 @@ module _ (fixed block : List ℕ) (o bias n : ℕ) (h : reaches fixed block o bi
 module _ (fixed block : List ℕ) where
   -- a block of the fixed area ends in it
   Ends : ℕ → Type 0
-  Ends o = (o ≡ 0x06 → ⊥) → baseOf o + length (blockOf fixed block o) ≤ 528
+  Ends o = (o ≡ 0x06 → ⊥) → ordinalStart o + length (blockOf fixed block o) ≤ 528
 
   ends : (o : ℕ) → known o ≡ true → Ends o
-  unfolding Ends blockOf baseOf
+  unfolding Ends blockOf ordinalStart
   ends o k =
       by-known Ends o k (λ n. omega (arith, part-most fixed 0 16)) (λ n. omega (arith, part-most fixed 16 256)) (λ n. absurd (n refl))
       (λ n. omega (arith, part-most fixed 272 256))
 
-  pub reached-fixed : (o bias n : ℕ) → reaches fixed block o bias n ≡ true → (o ≡ 0x06 → ⊥) → baseOf o + bias + n ≤ 528
+  pub reached-fixed : (o bias n : ℕ) → reaches fixed block o bias n ≡ true → (o ≡ 0x06 → ⊥) → ordinalStart o + bias + n ≤ 528
   unfolding Ends
   reached-fixed o bias n h e =
       omega (arith, reached-inside fixed block o bias n h, ends o (reached-known fixed block o bias n h) e)

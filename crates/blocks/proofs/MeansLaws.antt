@@ -14,13 +14,13 @@ use Rattle.model.specs.Limits.{mostAsked}
 use Rattle.model.specs.Frame.{Request, masterOf}
 use Rattle.model.specs.Config.{within}
 use Rattle.model.specs.Control.{isOf}
-use Rattle.model.specs.Blocks.{Executed, baseOf, reaches, notExecuted, executes, executeWhen, executeOf}
+use Rattle.model.specs.Blocks.{Executed, ordinalStart, reaches, notExecuted, executes, executeWhen, executeOf}
 use Rattle.model.specs.declared.Outcome.{Outcome}
 use Rattle.model.specs.declared.Outcome.the-variants.{WrongCount, NotValid, NothingWaits, WriteHeld}
 use Rattle.model.specs.declared.Pending.{Pending}
 use Rattle.model.specs.declared.Pending.the-variants.{NoWrite, Waits}
 use Rattle.model.proofs.Conditions.{by-cond}
-use Rattle.layout.specs.Unit.{unitSizes, startOf, fixedRegion, unitIn, setFixed, putFixed}
+use Rattle.layout.specs.Unit.{unitSizes, regionStart, fixedRegion, unitIn, setFixed, putFixed}
 use Rattle.layout.proofs.UnitLaws.{put-in, length-put-in, fixed-is, fixed-written}
 use Rattle.blocks.specs.Answers.{ExecutesAs}
 use Rattle.blocks.specs.declared.Executed as answer
@@ -49,7 +49,7 @@ module _ (u : List ℕ) where
   fixed-most : length (unitIn u .fixed) ≤ 528
   fixed-most = rw (fixed-is u) (part-most _ _ _)
 
-  put-fixed-is : (at : ℕ) (ys : List ℕ) → at + length ys ≤ 528 → putFixed u at ys ≡ put u (startOf fixedRegion + at) ys
+  put-fixed-is : (at : ℕ) (ys : List ℕ) → at + length ys ≤ 528 → putFixed u at ys ≡ put u (regionStart fixedRegion + at) ys
   unfolding unitSizes
   put-fixed-is at ys h = put-in u fixedRegion at ys h
 
@@ -57,8 +57,8 @@ module _ (u : List ℕ) where
   pub fixed-put : (at : ℕ) (ys : List ℕ) → at + length ys ≤ 528 → putFixed u at ys ≡ putFixed u 0 (put (unitIn u .fixed) at ys)
   fixed-put at ys h =
       put-fixed-is at ys h
-      ∙ sym (put-part u (startOf fixedRegion) 528 at ys h)
-      ∙ ap (λ (l : List ℕ). put u (startOf fixedRegion) (put l at ys)) (sym (fixed-is u))
+      ∙ sym (put-part u (regionStart fixedRegion) 528 at ys h)
+      ∙ ap (λ (l : List ℕ). put u (regionStart fixedRegion) (put l at ys)) (sym (fixed-is u))
       ∙ ap (λ (s : ℕ). put u s (put (unitIn u .fixed) at ys)) (sym (add-zero _))
       ∙ sym (put-fixed-is 0 (put (unitIn u .fixed) at ys) (omega (arith, length-put (unitIn u .fixed) at ys, fixed-most)))
 
@@ -88,7 +88,7 @@ module _ (fixed block : List ℕ) where
   executes-kept : (o bias : ℕ) (ys : List ℕ) → Kept (executes fixed block o bias ys)
   unfolding executes
   executes-kept o bias ys =
-      by-cond Kept (reaches fixed block o bias (length ys)) (λ e. kept _ (or-put (eqb o 0x06) (baseOf o + bias) ys)) (λ e. not-executed NotValid)
+      by-cond Kept (reaches fixed block o bias (length ys)) (λ e. kept _ (or-put (eqb o 0x06) (ordinalStart o + bias) ys)) (λ e. not-executed NotValid)
 
   when-kept : (p : Pending) (q : Request) → Kept (executeWhen p fixed block q)
   unfolding executeWhen

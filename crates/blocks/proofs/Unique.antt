@@ -19,7 +19,7 @@ use Rattle.blocks.proofs.execute.Reads as execute
 use Rattle.blocks.proofs.read.Reads as read
 
 -- write
-one-written : (m : definition.Written) (r s : Written) → WritesAs m r → WritesAs m s → r ≡ s
+one-written : (m : definition.WriteResult) (r s : Written) → WritesAs m r → WritesAs m s → r ≡ s
 one-written m r s a b = ap (λ (o : Outcome). made o (r .write)) (a .ended ∙ sym (b .ended)) ∙ ap (made (s .outcome)) (a .waiting ∙ sym (b .waiting))
   where
     made : Outcome → Pending → Written

@@ -8,7 +8,7 @@ use Rattle.blocks.specs.declared.Written.{Written}
 use Rattle.blocks.specs.declared.Executed.{Executed}
 
 -- the answer to a WRITE that came to m
-pub record WritesAs (m : model.Written) (r : Written) : Type 0 where
+pub record WritesAs (m : model.WriteResult) (r : Written) : Type 0 where
   pub ended : r .outcome ≡ m .says .outcome
   pub waiting : r .write ≡ m .write
 

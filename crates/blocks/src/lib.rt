@@ -48,7 +48,7 @@ fn piece<'a>(area: &'a [u8], base: usize, size: usize) -> &'a [u8]
 
 // Where an ordinal of the fixed area starts.
 fn ordinal_start(ordinal: u8) -> usize
-    ensures { λ r. ⌜ (r ≡ definition.baseOf ordinal) × (r ≤ 272) ⌝ }
+    ensures { λ r. ⌜ (r ≡ definition.ordinalStart ordinal) × (r ≤ 272) ⌝ }
 {
     match ordinal {
         0x00 => 0,

@@ -14,19 +14,19 @@ use Rattle.layout.specs.Unit.{configIn, configGiven}
 use Rattle.layout.specs.Kept.{Kept, Owned, keptIn, stateOf}
 use Rattle.unit.specs.Calls.{results}
 use Rattle.board.specs.Told.{actionNumber, outputNumber}
-use Rattle.board.specs.Runs.{Shown, numbered}
+use Rattle.board.specs.Runs.{Numbered, numbered}
 use Rattle.board.specs.Demand3.{Called, innerLent, heldLent, AlikeShown, AlikeRun, none as noneShown, more as moreShown, UnseenCall, Accounts, AccountsFor, CallsDemand3}
 use Rattle.board.proofs.RunLaws.{run-config, run-after, run-trace, run-taken}
 
 -- ---- what entries show, in numbers
 
-abbrev told : List Entry → List Shown
+abbrev told : List Entry → List Numbered
 told xs = map numbered (results xs)
 
 told-append : (xs ys : List Entry) → told (xs ++ ys) ≡ told xs ++ told ys
 unfolding results
 told-append [] ys = refl
-told-append (x ∷ xs) ys = ap (λ (k : List Shown). numbered (x .result) ∷ k) (told-append xs ys)
+told-append (x ∷ xs) ys = ap (λ (k : List Numbered). numbered (x .result) ∷ k) (told-append xs ys)
 
 alike-told : (a b : Entry) → AlikeEntry a b → AlikeShown (numbered (a .result)) (numbered (b .result))
 unfolding numbered
@@ -40,7 +40,7 @@ alike-run (more {a = a} {b = b} e k) = moreShown (alike-told a b e) (alike-run k
 
 -- ---- a run of calls is the definition's
 
-module _ (cs : List ℕ) {es : List Event} {xs : List Shown} {y : Owned} (r : Called cs es xs y) where
+module _ (cs : List ℕ) {es : List Event} {xs : List Numbered} {y : Owned} (r : Called cs es xs y) where
   shown-is : xs ≡ told (trace (configGiven cs) es)
   shown-is = run-trace cs refl (r .area) (r .fresh) (r .room) (r .runs)
 
@@ -59,7 +59,7 @@ module _ (cs : List ℕ) {es : List Event} {xs : List Shown} {y : Owned} (r : Ca
 
 -- ---- a damaged stretch among calls
 
-module _ (cs : List ℕ) (ds : List Event) (t : Stretch) (es : List Event) {xs ys : List Shown} {y z : Owned}
+module _ (cs : List ℕ) (ds : List Event) (t : Stretch) (es : List Event) {xs ys : List Numbered} {y z : Owned}
     (d : Damaged (t .chars)) (a : Called cs (ds ++ (stretch t ∷ es)) xs y) (b : Called cs (ds ++ es) ys z) where
   abbrev c : Config
   c = configGiven cs
@@ -87,7 +87,7 @@ module _ (cs : List ℕ) (ds : List Event) (t : Stretch) (es : List Event) {xs y
         call = numbered (resultOf c (after c ds) e);
         later = told (traceFrom c (nextOf c (after c ds) e) es);
         without = told (traceFrom c (after c ds) es);
-        parts = shown-is cs a ∙ split (e ∷ es) ∙ ap (λ (k : List Shown). told (trace c ds) ++ k) first;
+        parts = shown-is cs a ∙ split (e ∷ es) ∙ ap (λ (k : List Numbered). told (trace c ds) ++ k) first;
         rest = shown-is cs b ∙ split es;
         unanswered = u .unanswered;
         rests = ap actionNumber (u .rests);
@@ -97,7 +97,7 @@ module _ (cs : List ℕ) (ds : List Event) (t : Stretch) (es : List Event) {xs y
 
 -- ---- the demand
 
-module _ (cs : List ℕ) {es : List Event} {xs : List Shown} {y : Owned} (r : Called cs es xs y) where
+module _ (cs : List ℕ) {es : List Event} {xs : List Numbered} {y : Owned} (r : Called cs es xs y) where
   accounts : Accounts (configGiven cs) es xs y
   accounts =
       record {
@@ -106,7 +106,7 @@ module _ (cs : List ℕ) {es : List Event} {xs : List Shown} {y : Owned} (r : Ca
         memory = rw (inner-is cs r) (demand-3 (configGiven cs) .memory es);
       }
 
-  accounts-for : (e : Event) {ys : List Shown} {z : Owned} → Called cs (es ++ (e ∷ [])) ys z → (g : ℕ) → AccountsFor (configGiven cs) es e y z g
+  accounts-for : (e : Event) {ys : List Numbered} {z : Owned} → Called cs (es ++ (e ∷ [])) ys z → (g : ℕ) → AccountsFor (configGiven cs) es e y z g
   unfolding afterFrom
   accounts-for e q g =
       let a = demand-3 (configGiven cs) .events es e g in

@@ -28,10 +28,10 @@ use Rattle.unit.specs.Calls.{results as resultsOf, Calls, none as noCalls, hear
 use Rattle.unit.proofs.FreshLaws.{laid-config, laid-state, laid-stands}
 use Rattle.unit.proofs.CallLaws.{calls-after, calls-trace}
 use Rattle.board.specs.Told.{actionNumber, outputNumber}
-use Rattle.board.specs.Runs.{Shown, numbered, toldIn, Runs, none, heard, heeded, RunsAs, Taken, none as noneTaken, one}
+use Rattle.board.specs.Runs.{Numbered, numbered, answerShown, Runs, none, heard, heeded, RunsAs, Taken, none as noneTaken, one}
 use Rattle.board.proofs.ToldLaws.{shown-told}
 
-pub runs-as : {x y : Owned} {es : List Event} {xs : List Shown} → standing x ≡ true → Runs x es xs y → RunsAs x es xs y
+pub runs-as : {x y : Owned} {es : List Event} {xs : List Numbered} → standing x ≡ true → Runs x es xs y → RunsAs x es xs y
 unfolding numbered actionNumber outputNumber
 runs-as e none = record { results = []; calls = noCalls; shown = refl; stand = e; steady = record { layout = refl; config = refl; long = refl } }
 runs-as {y = z} e (heard {y = y} {exit = exit} {es = es} a rest) =
@@ -51,7 +51,7 @@ runs-as {y = z} e (heeded {y = y} {es = es} l a rest) =
     record {
       results = _;
       calls = heededCall l (b .heeds) (subst (λ (c : Config). Calls c (keptIn y) es (w .results) (keptIn z)) (b .steady .config) (w .calls));
-      shown = λ i. toldIn (a .said i) ∷ w .shown i;
+      shown = λ i. answerShown (a .said i) ∷ w .shown i;
       stand = w .stand;
       steady = record { layout = w .steady .layout ∙ b .steady .layout; config = w .steady .config ∙ b .steady .config; long = w .steady .long ∙ b .steady .long };
     }
@@ -81,7 +81,7 @@ trace-taken c s (e ∷ es) f g = one (result-row c s e f) (trace-taken c (nextOf
 
 -- its configuration's characters, a parameter block as long as they say, and the room for records that they ask for
 module _ (cs : List ℕ) {n : ℕ} (said : n ≡ configGiven cs .block) {u bl : List ℕ} (area : List ℕ) (f : FreshPromise cs n u bl) (room : roomOf (configIn u) ≤ length area) where
-  module _ {es : List Event} {xs : List Shown} {y : Owned} (r : Runs (ownedOf u bl area) es xs y) where
+  module _ {es : List Event} {xs : List Numbered} {y : Owned} (r : Runs (ownedOf u bl area) es xs y) where
     ran : RunsAs (ownedOf u bl area) es xs y
     ran = runs-as (laid-stands cs said area f room) r
 

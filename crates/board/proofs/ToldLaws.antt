@@ -12,9 +12,9 @@ use Rattle.model.specs.declared.ControlOutput.{ControlOutput}
 use Rattle.model.specs.declared.Action.{Action}
 use Rattle.model.specs.declared.Action.the-variants.{Rest, Operate}
 use Rattle.serve.specs.declared.Made.{Made}
-use Rattle.unit.specs.Calls.{shownBy}
+use Rattle.unit.specs.Calls.{madeShown}
 use Rattle.board.specs.Told.{turnedBy, actionNumber, outputNumber}
-use Rattle.board.specs.Runs.{Shown, numbered, shownIn}
+use Rattle.board.specs.Runs.{Numbered, numbered, numbersShown}
 
 -- ---- the output action
 
@@ -49,8 +49,8 @@ sent-back m h = omega arith
 
 -- what a stretch told in numbers is its result in numbers
 pub shown-told : (m : Made) {n : ℕ} {ts : List ℕ} (exit : List ℕ) → m .sent ≤ longestReply → n ≡ numberOf (m .outcome) → ts ≡ turnedBy m
-    → shownIn n ts exit ≡ numbered (shownBy m exit)
+    → numbersShown n ts exit ≡ numbered (madeShown m exit)
 unfolding numbered
 shown-told m {n} {ts} exit h e t =
-    (λ i. shownIn (e i) (t i) exit)
+    (λ i. numbersShown (e i) (t i) exit)
     ∙ (λ i. record { answer = numberOf (m .outcome); action = actionNumber (m .action); output = outputNumber (m .action); reply = take (sent-back m h i) exit })

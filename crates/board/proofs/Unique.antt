@@ -13,7 +13,7 @@ use Rattle.layout.specs.Kept.{Owned}
 use Rattle.serve.proofs.Unique.{one-turn}
 use Rattle.unit.proofs.Unique.{one-event, one-laid}
 use Rattle.serve.specs.declared.Made.{Made}
-use Rattle.board.specs.Told.{turnedBy, Shows, Says}
+use Rattle.board.specs.Told.{turnedBy, TurnPromise, AnswerPromise}
 use Rattle.board.proofs.osturdam_layout.Reads as osturdam-layout
 use Rattle.board.proofs.osturdam_valid.Reads as osturdam-valid
 use Rattle.board.proofs.osturdam_fresh.Reads as osturdam-fresh
@@ -26,7 +26,7 @@ use Rattle.board.proofs.osturdam_store_record.Reads as osturdam-store-r
 
 module _ (x y z : Owned) (long : length (x .unit) ≡ unitLong) (p : Characters (y .unit)) (q : Characters (z .unit)) where
   -- osturdam_stretch
-  pub one-showing : (s entry : List ℕ) {exit exit′ ts ts′ : List ℕ} {n m : ℕ} → Shows s x y entry exit n ts → Shows s x z entry exit′ m ts′
+  pub one-showing : (s entry : List ℕ) {exit exit′ ts ts′ : List ℕ} {n m : ℕ} → TurnPromise s x y entry exit n ts → TurnPromise s x z entry exit′ m ts′
       → (n ≡ m) × (ts ≡ ts′) × (exit ≡ exit′) × (y ≡ z)
   one-showing s entry a b =
       let w = one-turn s x y z entry long p q (a .serves) (b .serves) in (
@@ -37,7 +37,7 @@ module _ (x y z : Owned) (long : length (x .unit) ≡ unitLong) (p : Characters 
       )
 
   -- osturdam_elapsed, osturdam_set_word, osturdam_pulses, osturdam_set_value, osturdam_store_record
-  pub one-saying : (e : Event) {n m : ℕ} → Says e x y n → Says e x z m → (n ≡ m) × (y ≡ z)
+  pub one-saying : (e : Event) {n m : ℕ} → AnswerPromise e x y n → AnswerPromise e x z m → (n ≡ m) × (y ≡ z)
   one-saying e a b =
       let w = one-event e x y z long p q (a .tells) (b .tells) in (a .said ∙ ap answerNumber (w .0) ∙ sym (b .said), w .1)
 

@@ -10,17 +10,17 @@ use Rattle.model.specs.Event.{Stretch, Event, stretch}
 use Rattle.model.specs.Run.{resultOf, entryOf, after, trace}
 use Rattle.model.specs.Formed.{AllGiven}
 use Rattle.model.specs.Line.{shown, releasedBy, storedBy, storedIn, latestIn, releasedIn}
-use Rattle.model.specs.Damage.{Damaged, Alike}
+use Rattle.model.specs.Damage.{Damaged, AlikeReply}
 use Rattle.model.specs.Demand3.{Acknowledged, rememberedAs}
 use Rattle.layout.specs.Unit.{configIn, configGiven}
 use Rattle.layout.specs.Records.{roomOf}
 use Rattle.layout.specs.Kept.{Owned, ownedOf, keptIn, stateOf}
 use Rattle.unit.specs.Fresh.{FreshPromise}
 use Rattle.unit.specs.Calls.{results}
-use Rattle.board.specs.Runs.{Shown, numbered, Runs, Taken}
+use Rattle.board.specs.Runs.{Numbered, numbered, Runs, Taken}
 
 -- calls for the events es, from a fresh unit of the configuration whose characters are cs, that showed xs and left y
-pub record Called (cs : List ℕ) (es : List Event) (xs : List Shown) (y : Owned) : Type 0 where
+pub record Called (cs : List ℕ) (es : List Event) (xs : List Numbered) (y : Owned) : Type 0 where
   pub unit : List ℕ
   pub block : List ℕ
   pub area : List ℕ
@@ -38,23 +38,23 @@ heldLent y g = heldIn (innerLent y .history .files) g
 -- ---- damage
 
 -- the same numbers, and the same reply but for the port status and the check over it
-pub record AlikeShown (a b : Shown) : Type 0 where
+pub record AlikeShown (a b : Numbered) : Type 0 where
   pub answer : a .answer ≡ b .answer
   pub action : a .action ≡ b .action
   pub output : a .output ≡ b .output
-  pub reply : Alike (a .reply) (b .reply)
+  pub reply : AlikeReply (a .reply) (b .reply)
 
-pub data AlikeRun : List Shown → List Shown → Type 0 where
+pub data AlikeRun : List Numbered → List Numbered → Type 0 where
   none : AlikeRun [] []
-  more : {a b : Shown} {xs ys : List Shown} → AlikeShown a b → AlikeRun xs ys → AlikeRun (a ∷ xs) (b ∷ ys)
+  more : {a b : Numbered} {xs ys : List Numbered} → AlikeShown a b → AlikeRun xs ys → AlikeRun (a ∷ xs) (b ∷ ys)
 
 -- calls that showed xs and left y, with a call put in that those which showed ys and left z had not: it sent and operated nothing, what
 -- came before it is the same, what came later alike, and the memory left means the same but for the port
-pub record UnseenCall (xs ys : List Shown) (y z : Owned) : Type 0 where
-  pub earlier : List Shown
-  pub call : Shown
-  pub later : List Shown
-  pub without : List Shown
+pub record UnseenCall (xs ys : List Numbered) (y z : Owned) : Type 0 where
+  pub earlier : List Numbered
+  pub call : Numbered
+  pub later : List Numbered
+  pub without : List Numbered
   pub parts : xs ≡ earlier ++ (call ∷ later)
   pub rest : ys ≡ earlier ++ without
   pub unanswered : call .reply ≡ []
@@ -66,7 +66,7 @@ pub record UnseenCall (xs ys : List Shown) (y z : Owned) : Type 0 where
 
 -- calls that showed xs and left y: what they showed is the definition's trace in numbers, the records stored are those released and then
 -- those in the memory left, and the reply that this remembers is the latest on the line
-pub record Accounts (c : Config) (es : List Event) (xs : List Shown) (y : Owned) : Type 0 where
+pub record Accounts (c : Config) (es : List Event) (xs : List Numbered) (y : Owned) : Type 0 where
   pub shown : xs ≡ map numbered (results (trace c es))
   pub records : (g : ℕ) → storedIn (trace c es) g ≡ releasedIn c (trace c es) g ++ heldLent y g
   pub memory : latestIn c (trace c es) ≡ rememberedAs (innerLent y .history .memory) (innerLent y .history .files)
@@ -83,9 +83,9 @@ pub record AccountsFor (c : Config) (es : List Event) (e : Event) (y z : Owned) 
 
 -- for the characters of any configuration, and every run of calls
 pub record CallsDemand3 (cs : List ℕ) : Type 0 where
-  pub taken : {es : List Event} {xs : List Shown} {y : Owned} → validOf (configGiven cs) ≡ true → AllGiven es → Called cs es xs y → Taken xs
-  pub damage : (ds : List Event) (t : Stretch) (es : List Event) {xs ys : List Shown} {y z : Owned}
+  pub taken : {es : List Event} {xs : List Numbered} {y : Owned} → validOf (configGiven cs) ≡ true → AllGiven es → Called cs es xs y → Taken xs
+  pub damage : (ds : List Event) (t : Stretch) (es : List Event) {xs ys : List Numbered} {y z : Owned}
       → Damaged (t .chars) → Called cs (ds ++ (stretch t ∷ es)) xs y → Called cs (ds ++ es) ys z → UnseenCall xs ys y z
-  pub records : {es : List Event} {xs : List Shown} {y : Owned} → Called cs es xs y → Accounts (configGiven cs) es xs y
-  pub calls : (es : List Event) (e : Event) {xs ys : List Shown} {y z : Owned}
+  pub records : {es : List Event} {xs : List Numbered} {y : Owned} → Called cs es xs y → Accounts (configGiven cs) es xs y
+  pub calls : (es : List Event) (e : Event) {xs ys : List Numbered} {y z : Owned}
       → Called cs es xs y → Called cs (es ++ (e ∷ [])) ys z → (g : ℕ) → AccountsFor (configGiven cs) es e y z g

@@ -12,38 +12,38 @@ use Rattle.model.specs.declared.Outcome.the-variants.{NotConfigured}
 use Rattle.layout.specs.Unit.{configIn}
 use Rattle.layout.specs.Kept.{Owned, keptIn, standing, Steady}
 use Rattle.serve.specs.Stretch.{coming}
-use Rattle.unit.specs.Calls.{Local, Calls}
-use Rattle.board.specs.Told.{actionNumber, outputNumber, Shows, Says}
+use Rattle.unit.specs.Calls.{NoStretch, Calls}
+use Rattle.board.specs.Told.{actionNumber, outputNumber, TurnPromise, AnswerPromise}
 
 -- a result in numbers
-pub record Shown : Type 0 where
+pub record Numbered : Type 0 where
   pub answer : ℕ
   pub action : ℕ
   pub output : ℕ
   pub reply : List ℕ
 
-unfoldable pub numbered : Result → Shown
+unfoldable pub numbered : Result → Numbered
 numbered x =
     record { answer = answerNumber (x .answer); action = actionNumber (x .action); output = outputNumber (x .action); reply = x .reply }
 
 -- what a stretch showed: the reply is the front of the buffer that was to be sent
-abbrev pub shownIn : ℕ → List ℕ → List ℕ → Shown
-shownIn n ts exit = record { answer = n; action = getD ts 2 0; output = getD ts 3 0; reply = take (wordAt ts 0) exit }
+abbrev pub numbersShown : ℕ → List ℕ → List ℕ → Numbered
+numbersShown n ts exit = record { answer = n; action = getD ts 2 0; output = getD ts 3 0; reply = take (wordAt ts 0) exit }
 
 -- what any other event showed: its answer alone
-abbrev pub toldIn : ℕ → Shown
-toldIn n = record { answer = n; action = 0; output = 0; reply = [] }
+abbrev pub answerShown : ℕ → Numbered
+answerShown n = record { answer = n; action = 0; output = 0; reply = [] }
 
 -- calls in turn, each by its contract, on what the one before left
-pub data Runs : Owned → List Event → List Shown → Owned → Type 0 where
+pub data Runs : Owned → List Event → List Numbered → Owned → Type 0 where
   none : {x : Owned} → Runs x [] [] x
-  heard : {x y z : Owned} {s entry exit ts : List ℕ} {n : ℕ} {es : List Event} {xs : List Shown}
-      → Shows s x y entry exit n ts → Runs y es xs z → Runs x (coming entry s ∷ es) (shownIn n ts exit ∷ xs) z
-  heeded : {x y z : Owned} {e : Event} {n : ℕ} {es : List Event} {xs : List Shown}
-      → Local e → Says e x y n → Runs y es xs z → Runs x (e ∷ es) (toldIn n ∷ xs) z
+  heard : {x y z : Owned} {s entry exit ts : List ℕ} {n : ℕ} {es : List Event} {xs : List Numbered}
+      → TurnPromise s x y entry exit n ts → Runs y es xs z → Runs x (coming entry s ∷ es) (numbersShown n ts exit ∷ xs) z
+  heeded : {x y z : Owned} {e : Event} {n : ℕ} {es : List Event} {xs : List Numbered}
+      → NoStretch e → AnswerPromise e x y n → Runs y es xs z → Runs x (e ∷ es) (answerShown n ∷ xs) z
 
 -- a run of the unit's entries that showed the same; what is owned after it stands again, with the same configuration
-pub record RunsAs (x : Owned) (es : List Event) (xs : List Shown) (y : Owned) : Type 0 where
+pub record RunsAs (x : Owned) (es : List Event) (xs : List Numbered) (y : Owned) : Type 0 where
   pub results : List Result
   pub calls : Calls (configIn (x .unit)) (keptIn x) es results (keptIn y)
   pub shown : xs ≡ map numbered results
@@ -51,6 +51,6 @@ pub record RunsAs (x : Owned) (es : List Event) (xs : List Shown) (y : Owned) : 
   pub steady : Steady (x .unit) (y .unit)
 
 -- none was turned away by 17
-pub data Taken : List Shown → Type 0 where
+pub data Taken : List Numbered → Type 0 where
   none : Taken []
-  one : {x : Shown} {xs : List Shown} → (x .answer ≡ numberOf NotConfigured → ⊥) → Taken xs → Taken (x ∷ xs)
+  one : {x : Numbered} {xs : List Numbered} → (x .answer ≡ numberOf NotConfigured → ⊥) → Taken xs → Taken (x ∷ xs)

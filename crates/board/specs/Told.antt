@@ -28,7 +28,7 @@ abbrev pub turnedBy : Made → List ℕ
 turnedBy m = m .sent % 256 ∷ m .sent / 256 % 256 ∷ actionNumber (m .action) ∷ outputNumber (m .action) ∷ []
 
 -- the turn of the unit's entry, in numbers
-pub record Shows (s : List ℕ) (x y : Owned) (entry exit : List ℕ) (n : ℕ) (ts : List ℕ) : Type 0 where
+pub record TurnPromise (s : List ℕ) (x y : Owned) (entry exit : List ℕ) (n : ℕ) (ts : List ℕ) : Type 0 where
   pub turn : Made
   pub serves : StretchPromise s x y entry exit turn
   pub number : n ≡ numberOf (turn .outcome)
@@ -36,7 +36,7 @@ pub record Shows (s : List ℕ) (x y : Owned) (entry exit : List ℕ) (n : ℕ) 
 
 -- ---- time and the local events: the answer is a number
 
-pub record Says (e : Event) (x y : Owned) (n : ℕ) : Type 0 where
+pub record AnswerPromise (e : Event) (x y : Owned) (n : ℕ) : Type 0 where
   pub answer : Answer
   pub tells : EventPromise e x y answer
   pub said : n ≡ answerNumber answer

@@ -20,7 +20,7 @@ ghost use Rattle.model.specs.Event.{elapsed, setWord, setValue, pulses, store, 
 ghost use Rattle.layout.specs.Unit.{layoutNumber, configGiven};
 ghost use Rattle.layout.specs.Kept.{ownedOf};
 ghost use Rattle.unit.specs.Fresh.{FreshPromise};
-ghost use Rattle.board.specs.Told.{Shows, Says};
+ghost use Rattle.board.specs.Told.{TurnPromise, AnswerPromise};
 
 // The number of the layout that a unit's memory has.
 #[no_mangle]
@@ -64,7 +64,7 @@ pub extern "C" fn osturdam_stretch<'a>(
     s: &'a [u8],
     turned: &mut [u8; 4],
 ) -> u8
-    ensures { λ r. ⌜ Shows (now (s .entry))
+    ensures { λ r. ⌜ TurnPromise (now (s .entry))
         (ownedOf (now (unit .entry)) (now (block .entry)) (now (records .entry)))
         (ownedOf (now (unit .exit)) (now (block .exit)) (now (records .exit)))
         (now (buffer .entry)) (now (buffer .exit)) r (now (turned .exit)) ⌝ }
@@ -86,7 +86,7 @@ pub extern "C" fn osturdam_elapsed<'a>(
     records: &'a [u8],
     ms: u32,
 ) -> u8
-    ensures { λ r. ⌜ Says (elapsed ms)
+    ensures { λ r. ⌜ AnswerPromise (elapsed ms)
         (ownedOf (now (unit .entry)) (now (block .entry)) (now (records .entry)))
         (ownedOf (now (unit .exit)) (now (block .entry)) (now (records .entry))) r ⌝ }
 {
@@ -102,7 +102,7 @@ pub extern "C" fn osturdam_set_word<'a>(
     input: u8,
     word: u16,
 ) -> u8
-    ensures { λ r. ⌜ Says (local (setWord (record { 0 = input }) word))
+    ensures { λ r. ⌜ AnswerPromise (local (setWord (record { 0 = input }) word))
         (ownedOf (now (unit .entry)) (now (block .entry)) (now (records .entry)))
         (ownedOf (now (unit .exit)) (now (block .entry)) (now (records .entry))) r ⌝ }
 {
@@ -118,7 +118,7 @@ pub extern "C" fn osturdam_pulses<'a>(
     accumulator: u8,
     count: u16,
 ) -> u8
-    ensures { λ r. ⌜ Says (local (pulses (record { 0 = accumulator }) count))
+    ensures { λ r. ⌜ AnswerPromise (local (pulses (record { 0 = accumulator }) count))
         (ownedOf (now (unit .entry)) (now (block .entry)) (now (records .entry)))
         (ownedOf (now (unit .exit)) (now (block .entry)) (now (records .entry))) r ⌝ }
 {
@@ -134,7 +134,7 @@ pub extern "C" fn osturdam_set_value<'a>(
     calculation: u8,
     value: u32,
 ) -> u8
-    ensures { λ r. ⌜ Says (local (setValue (record { 0 = calculation }) value))
+    ensures { λ r. ⌜ AnswerPromise (local (setValue (record { 0 = calculation }) value))
         (ownedOf (now (unit .entry)) (now (block .entry)) (now (records .entry)))
         (ownedOf (now (unit .exit)) (now (block .entry)) (now (records .entry))) r ⌝ }
 {
@@ -151,7 +151,7 @@ pub extern "C" fn osturdam_store_record<'a>(
     event: u8,
     given: &'a [u16],
 ) -> u8
-    ensures { λ r. ⌜ Says (local (store (record { 0 = file }) event (now (given .entry))))
+    ensures { λ r. ⌜ AnswerPromise (local (store (record { 0 = file }) event (now (given .entry))))
         (ownedOf (now (unit .entry)) (now (block .entry)) (now (records .entry)))
         (ownedOf (now (unit .exit)) (now (block .entry)) (now (records .exit))) r ⌝ }
 {

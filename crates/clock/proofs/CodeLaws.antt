@@ -17,7 +17,7 @@ use Rattle.model.specs.Clock.{bcd, fromBcd, digits, clockFits, timeIn, digitsFi
 use Rattle.model.specs.declared.Outcome.{Outcome}
 use Rattle.model.specs.declared.Outcome.the-variants.{Done, WrongCount, NotValid, NotConfigured}
 use Rattle.model.specs.declared.Clock.{Clock}
-use Rattle.clock.specs.Times.{readOf}
+use Rattle.clock.specs.Times.{timeReadOf}
 
 pub both : (a b : Bool) → a && b ≡ true → (a ≡ true) × (b ≡ true)
 both true b e = (refl, e)
@@ -134,16 +134,16 @@ module _ (k : Clock) (fit : clockFits k ≡ true) where
   time-written r x p q m t w = w ∙ ap (put r replyHead) (part-whole _ 7 refl ∙ time-made p q m t)
 
 module _ (k : Clock) (q : Request) (f : Bool) (fit : f ≡ clockFits k) where
-  pub read-out : f ≡ false → readOf k q ≡ refuses NotConfigured
-  unfolding readOf
+  pub read-out : f ≡ false → timeReadOf k q ≡ refuses NotConfigured
+  unfolding timeReadOf
   read-out n = simp (sym fit ∙ n)
 
-  pub read-count : f ≡ true → (length (q .body) ≡ 0 → ⊥) → readOf k q ≡ refuses WrongCount
-  unfolding readOf readTimeOf withNoData counts
+  pub read-count : f ≡ true → (length (q .body) ≡ 0 → ⊥) → timeReadOf k q ≡ refuses WrongCount
+  unfolding timeReadOf readTimeOf withNoData counts
   read-count y n = simp (sym fit ∙ y, ne-eqb (length (q .body)) 0 n)
 
-  pub read-done : f ≡ true → length (q .body) ≡ 0 → readOf k q ≡ tells (timeChars k)
-  unfolding readOf readTimeOf withNoData counts
+  pub read-done : f ≡ true → length (q .body) ≡ 0 → timeReadOf k q ≡ tells (timeChars k)
+  unfolding timeReadOf readTimeOf withNoData counts
   read-done y n = simp (sym fit ∙ y, eq-eqb (length (q .body)) 0 n)
 
 -- a refusal writes nothing

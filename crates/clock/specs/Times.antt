@@ -12,5 +12,5 @@ abbrev pub setOf : Timed → Set
 setOf t = record { outcome = t .says .outcome; clock = t .clock }
 
 -- Read Time: a clock out of range has numbers that no character holds, and a unit that keeps one is answered with 17
-unfoldable pub readOf : Clock → Request → Scan
-readOf k q = cond (clockFits k) (readTimeOf k q) (refuses NotConfigured)
+unfoldable pub timeReadOf : Clock → Request → Scan
+timeReadOf k q = cond (clockFits k) (readTimeOf k q) (refuses NotConfigured)

@@ -13,7 +13,7 @@ ghost use Rattle.model.specs.Limits.{replyHead};
 ghost use Rattle.model.specs.Frame.{asked};
 ghost use Rattle.model.specs.Scan.{Fills};
 ghost use Rattle.model.specs.Clock.{bcd, fromBcd, digits, clockFits, timeIn, digitsFit, setTimeOf, timeChars, timeOf, clockAt, clockAfter};
-ghost use Rattle.clock.specs.Times.{setOf, readOf};
+ghost use Rattle.clock.specs.Times.{setOf, timeReadOf};
 
 // In milliseconds. Every year has 366 days.
 const YEAR: u64 = 366 * 86400000;
@@ -148,7 +148,7 @@ fn write_time(clock: Clock, reply: &mut [u8])
 
 // A clock out of range has no characters: a unit with such a clock answers nothing.
 pub fn read_time(clock: Clock, frame: Frame, body: &[u8], reply: &mut [u8]) -> Filled
-    ensures { λ r. ⌜ Fills (now (reply .entry)) (now (reply .exit)) (readOf clock (asked frame (now (body .entry)))) r ⌝ }
+    ensures { λ r. ⌜ Fills (now (reply .entry)) (now (reply .exit)) (timeReadOf clock (asked frame (now (body .entry)))) r ⌝ }
 {
     if clock_fits(clock) {
         if body.len() != 0 {

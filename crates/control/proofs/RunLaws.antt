@@ -18,14 +18,14 @@ use Rattle.model.specs.declared.Select.{Select}
 use Rattle.model.specs.declared.Hold.{Hold}
 use Rattle.model.specs.declared.Hold.the-variants.{Free, Held, TimedOut}
 use Rattle.control.specs.declared.Ran.{Ran}
-use Rattle.control.specs.Runs.{Runs, ranOf}
+use Rattle.control.specs.Runs.{ControlPromise, ranOf}
 
 -- the contract speaks of what the request came to, however that is written
-pub runs-as : {entry exit : List ℕ} {m n : Controlled} {r : Ran} → m ≡ n → Runs entry exit n r → Runs entry exit m r
+pub runs-as : {entry exit : List ℕ} {m n : Controlled} {r : Ran} → m ≡ n → ControlPromise entry exit n r → ControlPromise entry exit m r
 runs-as e t = rw e t
 
 -- where nothing is said, nothing is written
-pub runs-quiet : {entry : List ℕ} {m n : Controlled} {r : Ran} → m ≡ n → n .says .chars ≡ [] → r ≡ ranOf n → Runs entry entry m r
+pub runs-quiet : {entry : List ℕ} {m n : Controlled} {r : Ran} → m ≡ n → n .says .chars ≡ [] → r ≡ ranOf n → ControlPromise entry entry m r
 runs-quiet {entry} e q h =
     rw e (rw h (record { ended = refl; acted = refl; held = refl; counted = refl; written = rw q (sym (put-none entry replyHead)) }))
 

@@ -5,15 +5,15 @@ use Prim.Native.Nat.{ℕ}
 use mathlib.Core.List.{List}
 use Rattle.model.specs.Control.{Controlled}
 use Rattle.control.specs.declared.Ran.{Ran}
-use Rattle.control.specs.Runs.{Runs, ranOf}
+use Rattle.control.specs.Runs.{ControlPromise, ranOf}
 use Rattle.control.proofs.control.Reads as control
 use Rattle.control.proofs.breaks_off.Reads as breaks-off
 use Rattle.control.proofs.held_after.Reads as held-after
 
-ran-is : {entry exit : List ℕ} {m : Controlled} {r : Ran} → Runs entry exit m r → r ≡ ranOf m
+ran-is : {entry exit : List ℕ} {m : Controlled} {r : Ran} → ControlPromise entry exit m r → r ≡ ranOf m
 ran-is t = rw (← t .ended, ← t .acted, ← t .held, ← t .counted)
 
-one-run : {entry x y : List ℕ} {m : Controlled} {r s : Ran} → Runs entry x m r → Runs entry y m s → (x ≡ y) × (r ≡ s)
+one-run : {entry x y : List ℕ} {m : Controlled} {r s : Ran} → ControlPromise entry x m r → ControlPromise entry y m s → (x ≡ y) × (r ≡ s)
 one-run t u = (t .written ∙ sym (u .written), ran-is t ∙ sym (ran-is u))
 
 pub one-control : One control.Post (λ κ r s. r)

@@ -13,7 +13,7 @@ abbrev pub ranOf : Controlled → Ran
 ranOf m = record { outcome = m .says .outcome; action = m .action; hold = m .hold; count = length (m .says .chars) }
 
 -- a reply buffer after a control request that came to m: its data stand behind the room for the head, and nothing else was written
-pub record Runs (entry exit : List ℕ) (m : Controlled) (r : Ran) : Type 0 where
+pub record ControlPromise (entry exit : List ℕ) (m : Controlled) (r : Ran) : Type 0 where
   pub ended : r .outcome ≡ m .says .outcome
   pub acted : r .action ≡ m .action
   pub held : r .hold ≡ m .hold

@@ -16,7 +16,7 @@ ghost use mathlib.Core.Path.{_≡_};
 ghost use Rattle.model.specs.Frame.{asked};
 ghost use Rattle.model.specs.Control.{keeps, takes, selectWhen, operateWhen, resetWhen, selectOf, controlOf, operates, breaks, heldAfter};
 ghost use Rattle.layout.specs.Unit.{configIn};
-ghost use Rattle.control.specs.Runs.{Runs, ranOf};
+ghost use Rattle.control.specs.Runs.{ControlPromise, ranOf};
 
 // How a control request ended: one action or none, the select after it, and how many characters of data stand in the reply buffer.
 pub struct Ran {
@@ -39,7 +39,7 @@ fn kept(outcome: Outcome, hold: Hold) -> Ran
 }
 
 fn take(m: Master, n: ControlOutput, close: bool, reply: &mut [u8]) -> Ran
-    ensures { λ r. ⌜ Runs (now (reply .entry)) (now (reply .exit)) (takes m (n .0) close) r ⌝ }
+    ensures { λ r. ⌜ ControlPromise (now (reply .entry)) (now (reply .exit)) (takes m (n .0) close) r ⌝ }
 {
     chars::put_char(reply, Reply::HEAD, n.0);
     Ran {
@@ -52,7 +52,7 @@ fn take(m: Master, n: ControlOutput, close: bool, reply: &mut [u8]) -> Ran
 
 // A select that is held refuses every other; a timed-out mark gives way.
 fn select_when(hold: Hold, m: Master, n: ControlOutput, close: bool, reply: &mut [u8]) -> Ran
-    ensures { λ r. ⌜ Runs (now (reply .entry)) (now (reply .exit)) (selectWhen hold m (n .0) close) r ⌝ }
+    ensures { λ r. ⌜ ControlPromise (now (reply .entry)) (now (reply .exit)) (selectWhen hold m (n .0) close) r ⌝ }
 {
     match hold {
         Hold::Free => take(m, n, close, reply),
@@ -69,7 +69,7 @@ fn select(
     close: bool,
     reply: &mut [u8],
 ) -> Ran
-    ensures { λ r. ⌜ Runs (now (reply .entry)) (now (reply .exit))
+    ensures { λ r. ⌜ ControlPromise (now (reply .entry)) (now (reply .exit))
         (selectOf (configIn (now (unit .entry)) .outputs) hold (asked frame (now (body .entry))) close) r ⌝ }
 {
     if body.len() != 1 {
@@ -124,7 +124,7 @@ fn reset(hold: Hold) -> Ran
 }
 
 pub fn control(unit: &[u8; UNIT], hold: Hold, frame: Frame, body: &[u8], reply: &mut [u8]) -> Ran
-    ensures { λ r. ⌜ Runs (now (reply .entry)) (now (reply .exit))
+    ensures { λ r. ⌜ ControlPromise (now (reply .entry)) (now (reply .exit))
         (controlOf (configIn (now (unit .entry)) .outputs) hold (asked frame (now (body .entry)))) r ⌝ }
 {
     let command = frame.command;

@@ -15,7 +15,7 @@ use Rattle.layout.specs.Unit.{
   unitSizes,
   unitLong,
   configLong,
-  startOf,
+  regionStart,
   layoutNumber,
   layoutRegion,
   numberRegion,
@@ -32,9 +32,9 @@ use Rattle.layout.specs.Unit.{
   countsRegion,
   wordsIn,
   resultsIn,
-  configOf,
+  configFrom,
   configGiven,
-  unitOf,
+  unitFrom,
   unitIn,
   blankUnit,
   blankOf,
@@ -81,8 +81,8 @@ zero-results (suc n) = let e : 4 * suc n ≡ suc (suc (suc (suc (4 * n)))) = ome
 pub blank-long : (cs : List ℕ) → length (blankUnit cs) ≡ unitLong
 unfolding blankUnit
 blank-long cs =
-    length-put (put (replicate unitLong 0) (startOf layoutRegion) (word layoutNumber)) (startOf numberRegion) cs
-    ∙ length-put (replicate unitLong 0) (startOf layoutRegion) (word layoutNumber) ∙ length-replicate {A = ℕ} unitLong 0
+    length-put (put (replicate unitLong 0) (regionStart layoutRegion) (word layoutNumber)) (regionStart numberRegion) cs
+    ∙ length-put (replicate unitLong 0) (regionStart layoutRegion) (word layoutNumber) ∙ length-replicate {A = ℕ} unitLong 0
 
 -- CONFIG and UNIT of src/lib.rt are these numbers
 pub blank-laid : (cs : List ℕ) {u v : List ℕ} → length cs ≡ 836 → u ≡ put (replicate 2474 0) 0 (word 1) → v ≡ put u 2 (part cs 0 836) → v ≡ blankUnit cs
@@ -97,27 +97,27 @@ module _ (cs : List ℕ) (long : length cs ≡ configLong) where
       ∙ ap (λ (n : ℕ). take n (put (replicate 2474 0) 0 (word 1))) (sym (length-word 1))
       ∙ take-put-front (replicate 2474 0) (word 1) (omega (arith, length-word 1, length-replicate {A = ℕ} 2474 0))
 
-  inner : (k : ℕ) → k < length unitSizes → k < length (0 ∷ configSizes) → startOf k ≡ 2 + startIn (0 ∷ configSizes) k → getD unitSizes k 0 ≡ getD (0 ∷ configSizes) k 0
-      → startIn (0 ∷ configSizes) k + getD (0 ∷ configSizes) k 0 ≤ configLong → startOf numberRegion ≡ 2 → 2 + configLong ≤ unitLong
+  inner : (k : ℕ) → k < length unitSizes → k < length (0 ∷ configSizes) → regionStart k ≡ 2 + startIn (0 ∷ configSizes) k → getD unitSizes k 0 ≡ getD (0 ∷ configSizes) k 0
+      → startIn (0 ∷ configSizes) k + getD (0 ∷ configSizes) k 0 ≤ configLong → regionStart numberRegion ≡ 2 → 2 + configLong ≤ unitLong
       → regionIn unitSizes (blankUnit cs) k ≡ regionIn (0 ∷ configSizes) cs k
   unfolding blankUnit
   inner k h g a b l n m =
-      let z = put (replicate unitLong 0) (startOf layoutRegion) (word layoutNumber) in
-      let w : length z ≡ unitLong = length-put (replicate unitLong 0) (startOf layoutRegion) (word layoutNumber) ∙ length-replicate {A = ℕ} unitLong 0 in
+      let z = put (replicate unitLong 0) (regionStart layoutRegion) (word layoutNumber) in
+      let w : length z ≡ unitLong = length-put (replicate unitLong 0) (regionStart layoutRegion) (word layoutNumber) ∙ length-replicate {A = ℕ} unitLong 0 in
       region-part unitSizes (blankUnit cs) k h ∙ (λ i. part (put z (n i) cs) (a i) (b i))
       ∙ inner-part z cs 2 (startIn (0 ∷ configSizes) k) (getD (0 ∷ configSizes) k 0) (omega arith) (omega arith)
       ∙ sym (region-part (0 ∷ configSizes) cs k g)
 
-  back : (k : ℕ) → k < length unitSizes → startOf layoutRegion ≡ 0 → startOf numberRegion ≡ 2 → 2 + configLong ≤ startOf k → startOf k + getD unitSizes k 0 ≤ unitLong
+  back : (k : ℕ) → k < length unitSizes → regionStart layoutRegion ≡ 0 → regionStart numberRegion ≡ 2 → 2 + configLong ≤ regionStart k → regionStart k + getD unitSizes k 0 ≤ unitLong
       → regionIn unitSizes (blankUnit cs) k ≡ replicate (getD unitSizes k 0) 0
   unfolding blankUnit
   back k h a b l m =
       region-part unitSizes (blankUnit cs) k h
-      ∙ (λ i. part (put (put (replicate unitLong 0) (a i) (word layoutNumber)) (b i) cs) (startOf k) (getD unitSizes k 0))
-      ∙ back-part (word layoutNumber) cs unitLong 2 (startOf k) (getD unitSizes k 0) (omega (arith, length-word layoutNumber)) (omega arith) m
+      ∙ (λ i. part (put (put (replicate unitLong 0) (a i) (word layoutNumber)) (b i) cs) (regionStart k) (getD unitSizes k 0))
+      ∙ back-part (word layoutNumber) cs unitLong 2 (regionStart k) (getD unitSizes k 0) (omega (arith, length-word layoutNumber)) (omega arith) m
 
-  blank-config : configOf (regionIn unitSizes (blankUnit cs)) ≡ configGiven cs
-  unfolding configOf unitSizes startIn
+  blank-config : configFrom (regionIn unitSizes (blankUnit cs)) ≡ configGiven cs
+  unfolding configFrom unitSizes startIn
   blank-config =
       λ i. record {
         unit = wordAt (inner numberRegion (lit< tt) (lit< tt) refl refl (lit≤ tt) refl (lit≤ tt) i) 0;
@@ -134,7 +134,7 @@ module _ (cs : List ℕ) (long : length cs ≡ configLong) where
   blank-layout = ap (λ (r : List ℕ). wordAt r 0) front
 
   pub blank-means : unitIn (blankUnit cs) ≡ blankOf (configGiven cs)
-  unfolding unitOf unitSizes startIn
+  unfolding unitFrom unitSizes startIn
   blank-means =
       λ i. record {
         layout = blank-layout i;

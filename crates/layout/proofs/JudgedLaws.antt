@@ -13,10 +13,10 @@ use lib.Dec.{eqb, leb, ltb}
 use lib.Bits.{bitOr, or-zero-l, or-add-and, and-le-r}
 use borrow.Author.Tests.{ltb-true, ltb-false, leb-true, eqb-true, lt-ltb, le-leb, lt-leb, eq-eqb, ne-eqb}
 use Rattle.chars.specs.Put.{part}
-use Rattle.chars.specs.Gather.{upFrom}
+use Rattle.chars.specs.Gather.{upFrom, every}
 use Rattle.chars.proofs.PutLaws.{part-none, part-more}
 use Rattle.chars.proofs.GatherLaws.{up-none, up-more}
-use Rattle.model.specs.Config.{Config, has, within, hasFile, every, noneIn, fileValid, validOf}
+use Rattle.model.specs.Config.{Config, has, within, hasFile, noneIn, fileValid, validOf}
 use Rattle.model.specs.State.{Areas, Files, heldIn}
 use Rattle.model.specs.Clock.{clockFits}
 use Rattle.model.specs.Fits.{fits, areasFit, coreFits, portFits, historyFits, memoryFits, replyFits, fileFits}

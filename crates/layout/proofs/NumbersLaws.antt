@@ -8,6 +8,7 @@ use mathlib.Core.Bool.{Bool, true, false}
 use lib.ListN.{length, getD, drop}
 use lib.Dec.{eqb}
 use borrow.Author.Tests.{eqb-true, eq-eqb, ne-eqb}
+use Rattle.model.specs.Port.{markNumber}
 use Rattle.model.specs.declared.Master.{Master}
 use Rattle.model.specs.declared.Select.{Select}
 use Rattle.model.specs.declared.Hold.{Hold}
@@ -31,7 +32,6 @@ use Rattle.layout.specs.Numbers.{
   holdNumbers,
   writeNumbers,
   memoryNumbers,
-  markNumber,
   numbersOf,
   putCore,
   holdIn,

@@ -8,6 +8,7 @@ use mathlib.Core.Bool.{Bool, true, false, _&&_, and-assoc, and-true}
 use lib.ListN.{length, getD}
 use lib.Dec.{eqb, ltb}
 use borrow.Author.Tests.{eqb-true, eq-eqb, ne-eqb, ltb-true, lt-ltb}
+use Rattle.model.specs.Port.{markNumber}
 use Rattle.model.proofs.Conditions.{by-eqb}
 use Rattle.layout.specs.declared.select.HoldNumbers.{HoldNumbers}
 use Rattle.layout.specs.declared.write.WriteNumbers.{WriteNumbers}
@@ -17,7 +18,6 @@ use Rattle.layout.specs.Numbers.{
   holdNumbers,
   writeNumbers,
   memoryNumbers,
-  markNumber,
   numbersOf,
   holdPlaces,
   writePlaces,

@@ -14,7 +14,7 @@ use Rattle.chars.proofs.PutLaws.{length-put, put-none, put-one}
 use Rattle.chars.proofs.WordLaws.{length-word, length-value}
 use Rattle.model.specs.Config.{Config}
 use Rattle.layout.specs.Regions.{startIn, regionIn, setAt}
-use Rattle.layout.specs.Unit.{Unit, Renumbered, NumbersOnly, numbersIn, unitSizes, unitLong, startOf, layoutRegion, numberRegion, lengthRegion, inputsRegion, outputsRegion, calculationsRegion, filesRegion, valuesRegion, numbersRegion, wordsRegion, resultsRegion, fixedRegion, countsRegion, wordsIn, resultsIn, configOf, unitOf, unitIn, configIn, setNumbers, setWords, setValues, setFixed, setCounts, putIn, putNumber, putWord, putValue, putFixed, putCount, putCounts}
+use Rattle.layout.specs.Unit.{Unit, Renumbered, NumbersOnly, numbersIn, unitSizes, unitLong, regionStart, layoutRegion, numberRegion, lengthRegion, inputsRegion, outputsRegion, calculationsRegion, filesRegion, valuesRegion, numbersRegion, wordsRegion, resultsRegion, fixedRegion, countsRegion, wordsIn, resultsIn, configFrom, unitFrom, unitIn, configIn, setNumbers, setWords, setValues, setFixed, setCounts, putIn, putNumber, putWord, putValue, putFixed, putCount, putCounts}
 use Rattle.layout.proofs.RegionLaws.{regions-put, region-whole, region-at, region-past, region-part, region-own, region-most}
 
 -- how long a lent unit is: UNIT of src/lib.rt
@@ -25,7 +25,7 @@ unit-long u e = e
 -- ---- writing, in general
 
 -- characters that lie in their region
-pub put-in : (u : List ℕ) (k i : ℕ) (ys : List ℕ) → i + length ys ≤ getD unitSizes k 0 → putIn u k i ys ≡ put u (startOf k + i) ys
+pub put-in : (u : List ℕ) (k i : ℕ) (ys : List ℕ) → i + length ys ≤ getD unitSizes k 0 → putIn u k i ys ≡ put u (regionStart k + i) ys
 unfolding putIn
 put-in u k i ys h = simp (le-leb _ _ h)
 
@@ -37,7 +37,7 @@ put-out u k i ys h = simp (lt-leb _ _ h)
 -- a region's own characters written again leave the memory
 pub put-own : (u : List ℕ) (k : ℕ) → k < length unitSizes → putIn u k 0 (regionIn unitSizes u k) ≡ u
 put-own u k h =
-    let e : startOf k + 0 ≡ startOf k = omega arith in
+    let e : regionStart k + 0 ≡ regionStart k = omega arith in
     put-in u k 0 _ (omega (arith, region-most unitSizes u k)) ∙ ap (λ (a : ℕ). put u a (regionIn unitSizes u k)) e ∙ region-own unitSizes u k h
 
 put-or : (u : List ℕ) (at : ℕ) (ys : List ℕ) (b : Bool) → length (cond b (put u at ys) u) ≡ length u
@@ -46,32 +46,32 @@ put-or u at ys false = refl
 
 pub length-put-in : (u : List ℕ) (k i : ℕ) (ys : List ℕ) → length (putIn u k i ys) ≡ length u
 unfolding putIn
-length-put-in u k i ys = put-or u (startOf k + i) ys (leb (i + length ys) (getD unitSizes k 0))
+length-put-in u k i ys = put-or u (regionStart k + i) ys (leb (i + length ys) (getD unitSizes k 0))
 
 unit-put : (u : List ℕ) (k i : ℕ) (ys : List ℕ) → i + length ys ≤ getD unitSizes k 0
-    → unitIn (putIn u k i ys) ≡ unitOf (setAt (regionIn unitSizes u) k (put (regionIn unitSizes u k) i ys))
-unit-put u k i ys h = ap unitIn (put-in u k i ys h) ∙ ap unitOf (regions-put unitSizes u k i ys h)
+    → unitIn (putIn u k i ys) ≡ unitFrom (setAt (regionIn unitSizes u) k (put (regionIn unitSizes u k) i ys))
+unit-put u k i ys h = ap unitIn (put-in u k i ys h) ∙ ap unitFrom (regions-put unitSizes u k i ys h)
 
 -- a region set anew, as the unit means it
 module _ (r : ℕ → List ℕ) (x : List ℕ) where
-  unit-numbers : unitOf (setAt r numbersRegion x) ≡ setNumbers (unitOf r) (wordsIn x)
-  unfolding unitOf configOf setAt
+  unit-numbers : unitFrom (setAt r numbersRegion x) ≡ setNumbers (unitFrom r) (wordsIn x)
+  unfolding unitFrom configFrom setAt
   unit-numbers = refl
 
-  unit-words : unitOf (setAt r wordsRegion x) ≡ setWords (unitOf r) (wordsIn x)
-  unfolding unitOf configOf setAt
+  unit-words : unitFrom (setAt r wordsRegion x) ≡ setWords (unitFrom r) (wordsIn x)
+  unfolding unitFrom configFrom setAt
   unit-words = refl
 
-  unit-values : unitOf (setAt r resultsRegion x) ≡ setValues (unitOf r) (resultsIn x)
-  unfolding unitOf configOf setAt
+  unit-values : unitFrom (setAt r resultsRegion x) ≡ setValues (unitFrom r) (resultsIn x)
+  unfolding unitFrom configFrom setAt
   unit-values = refl
 
-  unit-fixed : unitOf (setAt r fixedRegion x) ≡ setFixed (unitOf r) x
-  unfolding unitOf configOf setAt
+  unit-fixed : unitFrom (setAt r fixedRegion x) ≡ setFixed (unitFrom r) x
+  unfolding unitFrom configFrom setAt
   unit-fixed = refl
 
-  unit-counts : unitOf (setAt r countsRegion x) ≡ setCounts (unitOf r) x
-  unfolding unitOf configOf setAt
+  unit-counts : unitFrom (setAt r countsRegion x) ≡ setCounts (unitFrom r) x
+  unfolding unitFrom configFrom setAt
   unit-counts = refl
 
 -- how long each region is
@@ -156,88 +156,88 @@ module _ (u : List ℕ) (long : length u ≡ unitLong) where
   region-size k h = region-whole unitSizes u k h long
 
   pub number-written : (i v : ℕ) → i < 26 → unitIn (putNumber u i v) ≡ setNumbers (unitIn u) (set (unitIn u .numbers) i v)
-  unfolding unitSizes unitOf
+  unfolding unitSizes unitFrom
   number-written i v h =
       unit-put u numbersRegion (2 * i) (word v) (omega (arith, length-word v)) ∙ unit-numbers _ _
       ∙ ap (setNumbers (unitIn u)) (words-put _ i v (omega (arith, region-size numbersRegion (lit< tt))))
 
   pub word-written : (n v : ℕ) → n < 256 → unitIn (putWord u n v) ≡ setWords (unitIn u) (set (unitIn u .words) n v)
-  unfolding unitSizes unitOf
+  unfolding unitSizes unitFrom
   word-written n v h =
       unit-put u wordsRegion (2 * n) (word v) (omega (arith, length-word v)) ∙ unit-words _ _
       ∙ ap (setWords (unitIn u)) (words-put _ n v (omega (arith, region-size wordsRegion (lit< tt))))
 
   pub value-written : (n v : ℕ) → n < 128 → unitIn (putValue u n v) ≡ setValues (unitIn u) (set (unitIn u .values) n v)
-  unfolding unitSizes unitOf
+  unfolding unitSizes unitFrom
   value-written n v h =
       unit-put u resultsRegion (4 * n) (value v) (omega (arith, length-value v)) ∙ unit-values _ _
       ∙ ap (setValues (unitIn u)) (values-put _ n v (omega (arith, region-size resultsRegion (lit< tt))))
 
 pub fixed-written : (u : List ℕ) (at : ℕ) (ys : List ℕ) → at + length ys ≤ 528 → unitIn (putFixed u at ys) ≡ setFixed (unitIn u) (put (unitIn u .fixed) at ys)
-unfolding unitSizes unitOf
+unfolding unitSizes unitFrom
 fixed-written u at ys h = unit-put u fixedRegion at ys h ∙ unit-fixed _ _
 
 pub count-written : (u : List ℕ) (f n : ℕ) → f < 32 → unitIn (putCount u f n) ≡ setCounts (unitIn u) (set (unitIn u .counts) f n)
-unfolding unitSizes unitOf
+unfolding unitSizes unitFrom
 count-written u f n h = unit-put u countsRegion f (n ∷ []) (omega arith) ∙ unit-counts _ _ ∙ ap (setCounts (unitIn u)) (put-one _ f n)
 
 -- ---- what is read from where
 
-region-word : (u : List ℕ) (k i : ℕ) → i + 2 ≤ getD unitSizes k 0 → wordAt (regionIn unitSizes u k) i ≡ wordAt u (startOf k + i)
+region-word : (u : List ℕ) (k i : ℕ) → i + 2 ≤ getD unitSizes k 0 → wordAt (regionIn unitSizes u k) i ≡ wordAt u (regionStart k + i)
 unfolding wordAt
 region-word u k i h =
     rw (region-at unitSizes u k i (omega arith), region-at unitSizes u k (i + 1) (omega arith))
-    (ap (λ (a : ℕ). getD u (startOf k + i) 0 + 256 * getD u a 0) (omega arith))
+    (ap (λ (a : ℕ). getD u (regionStart k + i) 0 + 256 * getD u a 0) (omega arith))
 
 module _ (u : List ℕ) where
-  pub layout-is : unitIn u .layout ≡ wordAt u (startOf layoutRegion)
-  unfolding unitOf unitSizes
-  layout-is = let f : startOf layoutRegion + 0 ≡ startOf layoutRegion = omega arith in region-word u layoutRegion 0 (lit≤ tt) ∙ ap (wordAt u) f
+  pub layout-is : unitIn u .layout ≡ wordAt u (regionStart layoutRegion)
+  unfolding unitFrom unitSizes
+  layout-is = let f : regionStart layoutRegion + 0 ≡ regionStart layoutRegion = omega arith in region-word u layoutRegion 0 (lit≤ tt) ∙ ap (wordAt u) f
 
-  pub number-is : configIn u .unit ≡ wordAt u (startOf numberRegion)
-  unfolding unitOf configOf unitSizes
-  number-is = let f : startOf numberRegion + 0 ≡ startOf numberRegion = omega arith in region-word u numberRegion 0 (lit≤ tt) ∙ ap (wordAt u) f
+  pub number-is : configIn u .unit ≡ wordAt u (regionStart numberRegion)
+  unfolding unitFrom configFrom unitSizes
+  number-is = let f : regionStart numberRegion + 0 ≡ regionStart numberRegion = omega arith in region-word u numberRegion 0 (lit≤ tt) ∙ ap (wordAt u) f
 
-  pub length-is : configIn u .block ≡ wordAt u (startOf lengthRegion)
-  unfolding unitOf configOf unitSizes
-  length-is = let f : startOf lengthRegion + 0 ≡ startOf lengthRegion = omega arith in region-word u lengthRegion 0 (lit≤ tt) ∙ ap (wordAt u) f
+  pub length-is : configIn u .block ≡ wordAt u (regionStart lengthRegion)
+  unfolding unitFrom configFrom unitSizes
+  length-is = let f : regionStart lengthRegion + 0 ≡ regionStart lengthRegion = omega arith in region-word u lengthRegion 0 (lit≤ tt) ∙ ap (wordAt u) f
 
 module _ (u : List ℕ) (n : ℕ) (h : n < 256) where
-  pub input-at : getD (configIn u .inputs) n 0 ≡ getD u (startOf inputsRegion + n) 0
-  unfolding unitOf configOf unitSizes
+  pub input-at : getD (configIn u .inputs) n 0 ≡ getD u (regionStart inputsRegion + n) 0
+  unfolding unitFrom configFrom unitSizes
   input-at = region-at unitSizes u inputsRegion n h
 
-  pub output-at : getD (configIn u .outputs) n 0 ≡ getD u (startOf outputsRegion + n) 0
-  unfolding unitOf configOf unitSizes
+  pub output-at : getD (configIn u .outputs) n 0 ≡ getD u (regionStart outputsRegion + n) 0
+  unfolding unitFrom configFrom unitSizes
   output-at = region-at unitSizes u outputsRegion n h
 
-  pub calculation-at : getD (configIn u .calculations) n 0 ≡ getD u (startOf calculationsRegion + n) 0
-  unfolding unitOf configOf unitSizes
+  pub calculation-at : getD (configIn u .calculations) n 0 ≡ getD u (regionStart calculationsRegion + n) 0
+  unfolding unitFrom configFrom unitSizes
   calculation-at = region-at unitSizes u calculationsRegion n h
 
-  pub word-at : getD (unitIn u .words) n 0 ≡ wordAt u (startOf wordsRegion + 2 * n)
-  unfolding unitOf unitSizes
+  pub word-at : getD (unitIn u .words) n 0 ≡ wordAt u (regionStart wordsRegion + 2 * n)
+  unfolding unitFrom unitSizes
   word-at = words-at (regionIn unitSizes u wordsRegion) n ∙ region-word u wordsRegion (2 * n) (omega arith)
 
 module _ (u : List ℕ) (f : ℕ) (h : f < 32) where
-  pub file-at : getD (configIn u .files) f 0 ≡ getD u (startOf filesRegion + f) 0
-  unfolding unitOf configOf unitSizes
+  pub file-at : getD (configIn u .files) f 0 ≡ getD u (regionStart filesRegion + f) 0
+  unfolding unitFrom configFrom unitSizes
   file-at = region-at unitSizes u filesRegion f h
 
-  pub values-of-at : getD (configIn u .values) f 0 ≡ getD u (startOf valuesRegion + f) 0
-  unfolding unitOf configOf unitSizes
+  pub values-of-at : getD (configIn u .values) f 0 ≡ getD u (regionStart valuesRegion + f) 0
+  unfolding unitFrom configFrom unitSizes
   values-of-at = region-at unitSizes u valuesRegion f h
 
-  pub count-at : getD (unitIn u .counts) f 0 ≡ getD u (startOf countsRegion + f) 0
-  unfolding unitOf unitSizes
+  pub count-at : getD (unitIn u .counts) f 0 ≡ getD u (regionStart countsRegion + f) 0
+  unfolding unitFrom unitSizes
   count-at = region-at unitSizes u countsRegion f h
 
-pub kept-at : (u : List ℕ) (i : ℕ) → i < 26 → getD (unitIn u .numbers) i 0 ≡ wordAt u (startOf numbersRegion + 2 * i)
-unfolding unitOf unitSizes
+pub kept-at : (u : List ℕ) (i : ℕ) → i < 26 → getD (unitIn u .numbers) i 0 ≡ wordAt u (regionStart numbersRegion + 2 * i)
+unfolding unitFrom unitSizes
 kept-at u i h = words-at (regionIn unitSizes u numbersRegion) i ∙ region-word u numbersRegion (2 * i) (omega arith)
 
 pub kept-past : (u : List ℕ) (i : ℕ) → 26 ≤ i → getD (unitIn u .numbers) i 0 ≡ 0
-unfolding unitOf unitSizes wordAt
+unfolding unitFrom unitSizes wordAt
 kept-past u i h =
     let p : (j : ℕ) → 52 ≤ j → getD (regionIn unitSizes u numbersRegion) j 0 ≡ 0 = region-past unitSizes u numbersRegion in
     words-at (regionIn unitSizes u numbersRegion) i ∙ rw (p (2 * i) (omega arith), p (2 * i + 1) (omega arith))
@@ -245,39 +245,39 @@ kept-past u i h =
 -- no file is numbered 32 or over
 module _ (u : List ℕ) (f : ℕ) (h : 32 ≤ f) where
   pub values-of-past : getD (configIn u .values) f 0 ≡ 0
-  unfolding unitOf configOf unitSizes
+  unfolding unitFrom configFrom unitSizes
   values-of-past = region-past unitSizes u valuesRegion f h
 
   pub count-past : getD (unitIn u .counts) f 0 ≡ 0
-  unfolding unitOf unitSizes
+  unfolding unitFrom unitSizes
   count-past = region-past unitSizes u countsRegion f h
 
 pub value-at : (u : List ℕ) (n : ℕ) → n < 128
-    → getD (unitIn u .values) n 0 ≡ wordAt u (startOf resultsRegion + 4 * n) + 65536 * wordAt u (startOf resultsRegion + 4 * n + 2)
-unfolding unitOf unitSizes
+    → getD (unitIn u .values) n 0 ≡ wordAt u (regionStart resultsRegion + 4 * n) + 65536 * wordAt u (regionStart resultsRegion + 4 * n + 2)
+unfolding unitFrom unitSizes
 value-at u n h =
-    let e : startOf resultsRegion + (4 * n + 2) ≡ startOf resultsRegion + 4 * n + 2 = omega arith in
+    let e : regionStart resultsRegion + (4 * n + 2) ≡ regionStart resultsRegion + 4 * n + 2 = omega arith in
     values-at (regionIn unitSizes u resultsRegion) n ∙ rw (region-word u resultsRegion (4 * n) (omega arith), region-word u resultsRegion (4 * n + 2) (omega arith), e)
 
 pub value-past : (u : List ℕ) (n : ℕ) → 128 ≤ n → getD (unitIn u .values) n 0 ≡ 0
-unfolding unitOf unitSizes wordAt
+unfolding unitFrom unitSizes wordAt
 value-past u n h =
     let p : (i : ℕ) → 512 ≤ i → getD (regionIn unitSizes u resultsRegion) i 0 ≡ 0 = region-past unitSizes u resultsRegion in
     values-at (regionIn unitSizes u resultsRegion) n ∙ rw (p (4 * n) (omega arith), p (4 * n + 1) (omega arith), p (4 * n + 2) (omega arith), p (4 * n + 2 + 1) (omega arith))
 
 -- the fixed area is a part of the memory
-pub fixed-is : (u : List ℕ) → unitIn u .fixed ≡ part u (startOf fixedRegion) 528
-unfolding unitOf unitSizes
+pub fixed-is : (u : List ℕ) → unitIn u .fixed ≡ part u (regionStart fixedRegion) 528
+unfolding unitFrom unitSizes
 fixed-is u = region-part unitSizes u fixedRegion (lit< tt)
 
 -- ---- whole regions anew
 
 pub counts-own : (u : List ℕ) → putCounts u (unitIn u .counts) ≡ u
-unfolding unitOf unitSizes
+unfolding unitFrom unitSizes
 counts-own u = put-own u countsRegion (lit< tt)
 
 pub fixed-own : (u : List ℕ) → putFixed u 0 (unitIn u .fixed) ≡ u
-unfolding unitOf unitSizes
+unfolding unitFrom unitSizes
 fixed-own u = put-own u fixedRegion (lit< tt)
 
 -- ---- kept numbers, one write after another
@@ -287,7 +287,7 @@ renumbered-in u v i n long h e =
     record { means = ap unitIn e ∙ number-written u long i n h; long = ap length e ∙ length-put-in u numbersRegion (2 * i) (word n) }
 
 numbers-most : (u : List ℕ) → length (unitIn u .numbers) ≤ 26
-unfolding unitOf unitSizes
+unfolding unitFrom unitSizes
 numbers-most u = words-most 26 (regionIn unitSizes u numbersRegion) (region-most unitSizes u numbersRegion)
 
 pub renumbered-out : (u : List ℕ) (i n : ℕ) → 26 ≤ i → Renumbered u u (set (unitIn u .numbers) i n)

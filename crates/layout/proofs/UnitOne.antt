@@ -8,7 +8,7 @@ use lib.ListN.{length, take, drop, getD, length-drop, take-append-drop}
 use lib.Dec.{lit<}
 use Rattle.chars.specs.Word.{Characters, wordAt}
 use Rattle.layout.specs.Regions.{startIn, regionIn}
-use Rattle.layout.specs.Unit.{Unit, unitSizes, unitLong, wordsIn, resultsIn, configOf, unitOf, unitIn}
+use Rattle.layout.specs.Unit.{Unit, unitSizes, unitLong, wordsIn, resultsIn, configFrom, unitFrom, unitIn}
 use Rattle.layout.proofs.RegionLaws.{region-at, region-past, region-whole}
 
 nil-one : (u v : List ℕ) → length u ≡ 0 → length v ≡ 0 → u ≡ v
@@ -100,7 +100,7 @@ module _ (u v : List ℕ) (l : length u ≡ unitLong) (m : length v ≡ unitLong
   long-v k h = region-whole unitSizes v k h m
 
   region-one : (j : ℕ) → regionIn unitSizes u j ≡ regionIn unitSizes v j
-  unfolding unitSizes unitOf configOf regionIn
+  unfolding unitSizes unitFrom configFrom regionIn
   region-one zero = word-one _ _ (long-u 0 (lit< tt)) (long-v 0 (lit< tt)) (chars-u 0) (chars-v 0) (ap (λ (x : Unit). x .layout) e)
   region-one (suc zero) = word-one _ _ (long-u 1 (lit< tt)) (long-v 1 (lit< tt)) (chars-u 1) (chars-v 1) (ap (λ (x : Unit). x .config .unit) e)
   region-one (suc (suc zero)) = word-one _ _ (long-u 2 (lit< tt)) (long-v 2 (lit< tt)) (chars-u 2) (chars-v 2) (ap (λ (x : Unit). x .config .block) e)

@@ -53,15 +53,15 @@ abbrev pub areasIn : List ℕ → List ℕ → Areas
 areasIn u block = areasBy (unitIn u) block
 
 -- the records in the lent characters
-abbrev pub heldIn : List ℕ → List ℕ → Files
-heldIn u area = filesIn (configIn u .values) area (unitIn u .counts)
+abbrev pub filesHeld : List ℕ → List ℕ → Files
+filesHeld u area = filesIn (configIn u .values) area (unitIn u .counts)
 
 -- all that is kept but the port: the memory, the parameter block, and the records or the characters of records
 abbrev pub innerBy : List ℕ → List ℕ → Files → Inner
 innerBy u block fs = innerOf (coreIn (numbersIn u)) (areasIn u block) (memoryIn (numbersIn u)) fs
 
 abbrev pub innerIn : List ℕ → List ℕ → List ℕ → Inner
-innerIn u block area = innerBy u block (heldIn u area)
+innerIn u block area = innerBy u block (filesHeld u area)
 
 -- all of a unit that its caller owns
 pub record Owned : Type 0 where

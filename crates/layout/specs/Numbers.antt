@@ -5,6 +5,7 @@ use mathlib.Core.List.{List, [], _∷_}
 use mathlib.Core.Bool.{Bool, true, false, cond, _&&_}
 use lib.ListN.{getD, set}
 use lib.Dec.{eqb}
+use Rattle.model.specs.Port.{markNumber}
 use Rattle.model.specs.declared.Hold.{Hold}
 use Rattle.model.specs.declared.Hold.the-variants.{Free, Held, TimedOut}
 use Rattle.model.specs.declared.Pending.{Pending}
@@ -38,11 +39,6 @@ unfoldable pub memoryNumbers : Memory → MemoryNumbers
 memoryNumbers Nothing = record { memory = 0; master = 0; file = 0; dump = 0; quantity = 0; more = 0 }
 memoryNumbers (Remembered t) =
     record { memory = 1; master = t .master .0; file = t .file .0; dump = bitOf (t .dump); quantity = t .quantity; more = bitOf (t .more) }
-
-unfoldable pub markNumber : Mark → ℕ
-markNumber Fine = 0
-markNumber Silent = 1
-markNumber Damaged = 2
 
 -- the 26 numbers, in the order of include/osturdam.h
 unfoldable pub numbersOf : Core → Memory → Port → List ℕ

@@ -67,12 +67,12 @@ abbrev pub countsRegion : ℕ
 countsRegion = 12
 
 -- where a region of a unit starts
-abbrev pub startOf : ℕ → ℕ
-startOf k = startIn unitSizes k
+abbrev pub regionStart : ℕ → ℕ
+regionStart k = startIn unitSizes k
 
 -- how long a unit's memory is
 abbrev pub unitLong : ℕ
-unitLong = startOf (length unitSizes)
+unitLong = regionStart (length unitSizes)
 
 -- how long a configuration is
 abbrev pub configLong : ℕ
@@ -85,19 +85,19 @@ layoutNumber = 1
 unfoldable pub placesOf : Places
 placesOf =
     record {
-      layout = startOf layoutRegion;
-      number = startOf numberRegion;
-      length = startOf lengthRegion;
-      inputs = startOf inputsRegion;
-      outputs = startOf outputsRegion;
-      calculations = startOf calculationsRegion;
-      files = startOf filesRegion;
-      values = startOf valuesRegion;
-      numbers = startOf numbersRegion;
-      words = startOf wordsRegion;
-      results = startOf resultsRegion;
-      fixed = startOf fixedRegion;
-      counts = startOf countsRegion;
+      layout = regionStart layoutRegion;
+      number = regionStart numberRegion;
+      length = regionStart lengthRegion;
+      inputs = regionStart inputsRegion;
+      outputs = regionStart outputsRegion;
+      calculations = regionStart calculationsRegion;
+      files = regionStart filesRegion;
+      values = regionStart valuesRegion;
+      numbers = regionStart numbersRegion;
+      words = regionStart wordsRegion;
+      results = regionStart resultsRegion;
+      fixed = regionStart fixedRegion;
+      counts = regionStart countsRegion;
       config = configLong;
       unit = unitLong;
       current = layoutNumber;
@@ -130,8 +130,8 @@ pub record Unit : Type 0 where
   pub fixed : List ℕ
   pub counts : List ℕ
 
-unfoldable pub configOf : (ℕ → List ℕ) → Config
-configOf r =
+unfoldable pub configFrom : (ℕ → List ℕ) → Config
+configFrom r =
     record {
       unit = wordAt (r numberRegion) 0;
       inputs = r inputsRegion;
@@ -142,11 +142,11 @@ configOf r =
       block = wordAt (r lengthRegion) 0;
     }
 
-unfoldable pub unitOf : (ℕ → List ℕ) → Unit
-unitOf r =
+unfoldable pub unitFrom : (ℕ → List ℕ) → Unit
+unitFrom r =
     record {
       layout = wordAt (r layoutRegion) 0;
-      config = configOf r;
+      config = configFrom r;
       numbers = wordsIn (r numbersRegion);
       words = wordsIn (r wordsRegion);
       values = resultsIn (r resultsRegion);
@@ -155,7 +155,7 @@ unitOf r =
     }
 
 abbrev pub unitIn : List ℕ → Unit
-unitIn u = unitOf (regionIn unitSizes u)
+unitIn u = unitFrom (regionIn unitSizes u)
 
 abbrev pub configIn : List ℕ → Config
 configIn u = unitIn u .config
@@ -181,7 +181,7 @@ setCounts x ns = record { layout = x .layout; config = x .config; numbers = x .n
 
 -- characters from character i of region k on
 unfoldable pub putIn : List ℕ → ℕ → ℕ → List ℕ → List ℕ
-putIn u k i ys = cond (leb (i + length ys) (getD unitSizes k 0)) (put u (startOf k + i) ys) u
+putIn u k i ys = cond (leb (i + length ys) (getD unitSizes k 0)) (put u (regionStart k + i) ys) u
 
 abbrev pub putNumber : List ℕ → ℕ → ℕ → List ℕ
 putNumber u i v = putIn u numbersRegion (2 * i) (word v)
@@ -225,13 +225,13 @@ equipInput cs n = put cs (startIn configSizes 2 + n) (1 ∷ [])
 
 -- what the characters of a configuration mean
 abbrev pub configGiven : List ℕ → Config
-configGiven cs = configOf (regionIn (0 ∷ configSizes) cs)
+configGiven cs = configFrom (regionIn (0 ∷ configSizes) cs)
 
 -- ---- a unit with nothing in it but a configuration
 
 -- its characters: this layout's number, those of the configuration, and 0 behind them
 unfoldable pub blankUnit : List ℕ → List ℕ
-blankUnit cs = put (put (replicate unitLong 0) (startOf layoutRegion) (word layoutNumber)) (startOf numberRegion) cs
+blankUnit cs = put (put (replicate unitLong 0) (regionStart layoutRegion) (word layoutNumber)) (regionStart numberRegion) cs
 
 -- what they mean
 abbrev pub blankOf : Config → Unit

@@ -5,8 +5,9 @@ use super::numbers::put_kept;
 use model::Mark;
 use model::Port;
 ghost use mathlib.Core.Path.{_≡_};
+ghost use Rattle.model.specs.Port.{markNumber};
 ghost use Rattle.layout.specs.Unit.{unitIn, Renumbered};
-ghost use Rattle.layout.specs.Numbers.{markNumber, markIn, markAt, portIn, putPort};
+ghost use Rattle.layout.specs.Numbers.{markIn, markAt, portIn, putPort};
 ghost use Rattle.layout.specs.Judged.{portJudged};
 
 fn mark_in(x: u16) -> Mark

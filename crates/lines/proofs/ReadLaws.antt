@@ -10,8 +10,9 @@ use lib.Seq.{drop-cons, take-all}
 use lib.Dec.{leb, eqb}
 use borrow.Author.Tests.{ltb-true, leb-true, lt-ltb, le-ltb, le-leb, lt-leb, eq-eqb, ne-eqb}
 use Rattle.chars.specs.Put.{put, part}
+use Rattle.chars.specs.Gather.{every}
 use Rattle.chars.proofs.PutLaws.{put-none, part-whole, copy-more, copy-clipped}
-use Rattle.lines.specs.Line.{Says, stretch, time, other, every, hexVal, isHex, isDecimal, pairs, valueFrom, stretchOf, timeFrom, timeOf, fieldOf, fieldsOf, saysOf, heardIn, lineOf}
+use Rattle.lines.specs.Line.{Says, stretch, time, other, hexVal, isHex, isDecimal, pairs, valueFrom, stretchOf, timeFrom, timeSaid, fieldOf, fieldsOf, saysOf, stretchIn, lineOf}
 use Rattle.lines.specs.declared.Line.{Line}
 use Rattle.lines.proofs.Tests.{by-test, cond-same, cond-and, every-step, every-at}
 
@@ -99,23 +100,23 @@ pub time-end : (s : List ℕ) (i v : ℕ) → length s ≤ i → v ≤ 429496729
 unfolding timeFrom every valueFrom
 time-end s i v h k = rw (drop-of-length-le s h) (rw (le-leb v 4294967295 k))
 
-pub time-none : (s : List ℕ) → length s ≡ 0 → timeOf s ≡ other
-unfolding timeOf
+pub time-none : (s : List ℕ) → length s ≡ 0 → timeSaid s ≡ other
+unfolding timeSaid
 time-none [] h = refl
 time-none (d ∷ s) h = absurd (omega arith)
 
-pub time-some : (s : List ℕ) → (length s ≡ 0 → ⊥) → timeOf s ≡ timeFrom 0 s
-unfolding timeOf
+pub time-some : (s : List ℕ) → (length s ≡ 0 → ⊥) → timeSaid s ≡ timeFrom 0 s
+unfolding timeSaid
 time-some [] h = absurd (h refl)
 time-some (d ∷ s) h = refl
 
-quiet-if : (b : Bool) (m n : Says) → heardIn m ≡ [] → heardIn n ≡ [] → heardIn (cond b m n) ≡ []
+quiet-if : (b : Bool) (m n : Says) → stretchIn m ≡ [] → stretchIn n ≡ [] → stretchIn (cond b m n) ≡ []
 quiet-if true m n p q = p
 quiet-if false m n p q = q
 
 -- a time has no stretch
-pub time-quiet : (ds : List ℕ) → heardIn (timeOf ds) ≡ []
-unfolding timeOf timeFrom heardIn
+pub time-quiet : (ds : List ℕ) → stretchIn (timeSaid ds) ≡ []
+unfolding timeSaid timeFrom stretchIn
 time-quiet [] = refl
 time-quiet (d ∷ ds) = quiet-if (every isDecimal (d ∷ ds)) _ other (quiet-if (leb (valueFrom 0 (d ∷ ds)) 4294967295) (time (valueFrom 0 (d ∷ ds))) other refl refl) refl
 
@@ -174,9 +175,9 @@ module _ (l : List ℕ) (m : length l ≤ 2000) (n : 2 ≤ length l) where
   unfolding fieldOf
   line-stretch t k = line-field t ∙ simp (eq-eqb (getD l 0 0) 82 k) (ap stretchOf (behind l))
 
-  pub line-time : getD l 1 0 ≡ 9 → (getD l 0 0 ≡ 82 → ⊥) → getD l 0 0 ≡ 84 → saysOf l ≡ timeOf (take (length l - 2) (drop 2 l))
+  pub line-time : getD l 1 0 ≡ 9 → (getD l 0 0 ≡ 82 → ⊥) → getD l 0 0 ≡ 84 → saysOf l ≡ timeSaid (take (length l - 2) (drop 2 l))
   unfolding fieldOf
-  line-time t j k = line-field t ∙ simp (ne-eqb (getD l 0 0) 82 j, eq-eqb (getD l 0 0) 84 k) (ap timeOf (behind l))
+  line-time t j k = line-field t ∙ simp (ne-eqb (getD l 0 0) 82 j, eq-eqb (getD l 0 0) 84 k) (ap timeSaid (behind l))
 
   pub line-unknown : getD l 1 0 ≡ 9 → (getD l 0 0 ≡ 82 → ⊥) → (getD l 0 0 ≡ 84 → ⊥) → saysOf l ≡ other
   unfolding fieldOf
@@ -195,52 +196,52 @@ module _ (m : Says) where
 
 -- a line that says m was read: r is answered, and the lent memory, which was xs, is ys
 abbrev Read : Says → Line → List ℕ → List ℕ → Type 0
-Read m r xs ys = (r ≡ lineOf m) × (ys ≡ put xs 0 (heardIn m))
+Read m r xs ys = (r ≡ lineOf m) × (ys ≡ put xs 0 (stretchIn m))
 
 pub read-as : (m n : Says) (r : Line) (xs ys : List ℕ) → m ≡ n → Read n r xs ys → Read m r xs ys
 read-as m n r xs ys e h = rw e h
 
-pub read-quiet : (m n : Says) (r : Line) (xs : List ℕ) → m ≡ n → heardIn n ≡ [] → r ≡ lineOf n → Read m r xs xs
+pub read-quiet : (m n : Says) (r : Line) (xs : List ℕ) → m ≡ n → stretchIn n ≡ [] → r ≡ lineOf n → Read m r xs xs
 read-quiet m n r xs e q h = rw e (h, rw q (sym (put-none xs 0)))
 
 pub read-other : (m : Says) (xs : List ℕ) → m ≡ other → Read m Line.Other xs xs
-unfolding heardIn
+unfolding stretchIn
 read-other m xs e = read-quiet m other Line.Other xs e refl (answer-other other refl)
 
 pub read-stretch : (m : Says) (s : List ℕ) (n : ℕ) (xs ys : List ℕ) → m ≡ stretch s → n ≡ length s → ys ≡ put xs 0 s → Read m (Line.Stretch n) xs ys
-unfolding lineOf heardIn
+unfolding lineOf stretchIn
 read-stretch m s n xs ys e k w = rw (e, k) (refl, w)
 
 -- ---- the bound of a stretch
 
-most-if : (b : Bool) (m n : Says) → length (heardIn m) ≤ 999 → length (heardIn n) ≤ 999 → length (heardIn (cond b m n)) ≤ 999
+most-if : (b : Bool) (m n : Says) → length (stretchIn m) ≤ 999 → length (stretchIn n) ≤ 999 → length (stretchIn (cond b m n)) ≤ 999
 most-if true m n p q = p
 most-if false m n p q = q
 
-none-heard : length (heardIn other) ≤ 999
-unfolding heardIn
+none-heard : length (stretchIn other) ≤ 999
+unfolding stretchIn
 none-heard = omega arith
 
-most-stretch : (ds : List ℕ) → length ds ≤ 1998 → length (heardIn (stretchOf ds)) ≤ 999
-unfolding stretchOf heardIn
+most-stretch : (ds : List ℕ) → length ds ≤ 1998 → length (stretchIn (stretchOf ds)) ≤ 999
+unfolding stretchOf stretchIn
 most-stretch ds h =
     let n : length (pairs ds) ≤ 999 = omega (arith, length-pairs ds) in
     let z : zero ≤ 999 = omega arith in
     most-if (eqb (length ds % 2) 0) (cond (every isHex ds) (stretch (pairs ds)) other) other (most-if (every isHex ds) (stretch (pairs ds)) other n z) z
 
-most-field : (k : ℕ) (ds : List ℕ) → length ds ≤ 1998 → length (heardIn (fieldOf k ds)) ≤ 999
+most-field : (k : ℕ) (ds : List ℕ) → length ds ≤ 1998 → length (stretchIn (fieldOf k ds)) ≤ 999
 unfolding fieldOf
 most-field k ds h =
-    let t : length (heardIn (timeOf ds)) ≤ 999 = omega (arith, ap length (time-quiet ds)) in
-    most-if (eqb k 82) (stretchOf ds) (cond (eqb k 84) (timeOf ds) other) (most-stretch ds h) (most-if (eqb k 84) (timeOf ds) other t none-heard)
+    let t : length (stretchIn (timeSaid ds)) ≤ 999 = omega (arith, ap length (time-quiet ds)) in
+    most-if (eqb k 82) (stretchOf ds) (cond (eqb k 84) (timeSaid ds) other) (most-stretch ds h) (most-if (eqb k 84) (timeSaid ds) other t none-heard)
 
-most-fields : (l : List ℕ) → length l ≤ 2000 → length (heardIn (fieldsOf l)) ≤ 999
+most-fields : (l : List ℕ) → length l ≤ 2000 → length (stretchIn (fieldsOf l)) ≤ 999
 unfolding fieldsOf
 most-fields [] h = none-heard
 most-fields (k ∷ []) h = none-heard
 most-fields (k ∷ t ∷ ds) h = most-if (eqb t 9) (fieldOf k ds) other (most-field k ds (omega arith)) none-heard
 
-pub stretch-most : (l : List ℕ) → length (heardIn (saysOf l)) ≤ 999
+pub stretch-most : (l : List ℕ) → length (stretchIn (saysOf l)) ≤ 999
 unfolding saysOf
 stretch-most l =
     by-test
@@ -248,12 +249,12 @@ stretch-most l =
     (λ e. rw e (most-fields l (leb-true _ _ e)))
     (λ e. rw e none-heard)
 
-long-as : (m : Says) (n : ℕ) → lineOf m ≡ Line.Stretch n → n ≡ length (heardIn m)
-unfolding lineOf heardIn
+long-as : (m : Says) (n : ℕ) → lineOf m ≡ Line.Stretch n → n ≡ length (stretchIn m)
+unfolding lineOf stretchIn
 long-as (stretch s) n e = cc
 long-as (time v) n e = cc
 long-as other n e = cc
 
 -- an answer that is a stretch says how long it is, and 999 characters are room for every one
-pub stretch-long : (l : List ℕ) (n : ℕ) → lineOf (saysOf l) ≡ Line.Stretch n → (n ≡ length (heardIn (saysOf l))) × (n ≤ 999)
-stretch-long l n e = let q : n ≡ length (heardIn (saysOf l)) = long-as (saysOf l) n e in (q, omega (arith, stretch-most l))
+pub stretch-long : (l : List ℕ) (n : ℕ) → lineOf (saysOf l) ≡ Line.Stretch n → (n ≡ length (stretchIn (saysOf l))) × (n ≤ 999)
+stretch-long l n e = let q : n ≡ length (stretchIn (saysOf l)) = long-as (saysOf l) n e in (q, omega (arith, stretch-most l))

@@ -8,9 +8,9 @@ use mathlib.Core.Bool.{true}
 use lib.ListN.{length, drop, set, length-append, length-drop, drop-of-length-le}
 use lib.Dec.{ltb}
 use borrow.Author.Tests.{ltb-true, ltb-false, lt-ltb, le-ltb, le-leb, eq-eqb}
-use Rattle.chars.specs.Gather.{gather}
+use Rattle.chars.specs.Gather.{gather, every}
 use Rattle.chars.specs.Word.{Characters}
-use Rattle.lines.specs.Line.{stretch, time, every, hexVal, isHex, isDecimal, pairs, valueFrom, stretchOf, timeFrom, timeOf, fieldOf, fieldsOf, saysOf, decimalIn, decimal, hexDigit, hexOf, replyOf, columnOf, shownOf, otherOf}
+use Rattle.lines.specs.Line.{stretch, time, hexVal, isHex, isDecimal, pairs, valueFrom, stretchOf, timeFrom, timeSaid, fieldOf, fieldsOf, saysOf, decimalIn, decimal, hexDigit, hexOf, replyOf, columnOf, shownOf, otherLine}
 use Rattle.lines.specs.Wrote.{Wrote}
 use Rattle.lines.proofs.Tests.{by-test, every-append, drop-set-at}
 use Rattle.lines.proofs.WroteLaws.{wrote-join}
@@ -108,7 +108,7 @@ decimal-digits n =
     n
     (omega arith)
 
-time-line : (ds : List ℕ) → length ds ≤ 1998 → saysOf (84 ∷ 9 ∷ ds) ≡ timeOf ds
+time-line : (ds : List ℕ) → length ds ≤ 1998 → saysOf (84 ∷ 9 ∷ ds) ≡ timeSaid ds
 unfolding saysOf fieldsOf fieldOf
 time-line ds h = rw (le-leb (suc (suc (length ds))) 2000 (omega arith))
 
@@ -224,8 +224,8 @@ module _ {r₀ r₁ r₂ r₃ r : List ℕ} {t₁ t₂ t₃ to e : ℕ} (n o : �
 
 module _ {r₀ r₁ r₂ r₃ r₄ r : List ℕ} {t₁ t₂ t₃ t₄ to a b c d : ℕ} (n : ℕ) where
   pub other-wrote : Wrote r₀ 0 (columnOf n) r₁ t₁ → Wrote r₁ t₁ (a ∷ []) r₂ t₂ → Wrote r₂ t₂ (b ∷ []) r₃ t₃ → Wrote r₃ t₃ (c ∷ []) r₄ t₄
-      → Wrote r₄ t₄ (d ∷ []) r to → a ≡ 45 → b ≡ 9 → c ≡ 45 → d ≡ 10 → Wrote r₀ 0 (otherOf n) r to
-  unfolding otherOf
+      → Wrote r₄ t₄ (d ∷ []) r to → a ≡ 45 → b ≡ 9 → c ≡ 45 → d ≡ 10 → Wrote r₀ 0 (otherLine n) r to
+  unfolding otherLine
   other-wrote u v w x y p q r s = wrote-join u (wrote-join (rw p at v) (wrote-join (rw q at w) (wrote-join (rw r at x) (rw s at y))))
 
 -- ---- the room that they need
@@ -244,6 +244,6 @@ unfolding shownOf
 shown-most n o cs h k =
     simp length-append (omega (arith, length-column n 19 (omega arith), length-column o 2 (omega arith), length-reply cs))
 
-pub other-most : (n : ℕ) → n < 2 ^ 64 → length (otherOf n) ≤ 25
-unfolding otherOf
+pub other-most : (n : ℕ) → n < 2 ^ 64 → length (otherLine n) ≤ 25
+unfolding otherLine
 other-most n h = rw length-append (omega (arith, length-column n 19 (omega arith)))

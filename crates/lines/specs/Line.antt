@@ -4,7 +4,7 @@ use mathlib.Core.List.{List, [], _∷_, _++_}
 use mathlib.Core.Bool.{Bool, true, cond, _&&_}
 use lib.ListN.{length}
 use lib.Dec.{leb, ltb, eqb}
-use Rattle.chars.specs.Gather.{gather}
+use Rattle.chars.specs.Gather.{gather, every}
 use Rattle.lines.specs.declared.Line.{Line}
 
 -- ---- what a line says
@@ -14,10 +14,6 @@ pub data Says : Type 0 where
   stretch : List ℕ → Says
   time : ℕ → Says
   other : Says
-
-unfoldable pub every : (ℕ → Bool) → List ℕ → Bool
-every f [] = true
-every f (x ∷ xs) = f x && every f xs
 
 -- what a digit of capital hex is worth: 0 to 9, A to F; 16 is no digit
 unfoldable pub hexVal : ℕ → ℕ
@@ -51,13 +47,13 @@ unfoldable pub timeFrom : ℕ → List ℕ → Says
 timeFrom v ds = cond (every isDecimal ds) (cond (leb (valueFrom v ds) 4294967295) (time (valueFrom v ds)) other) other
 
 -- one digit or more
-unfoldable pub timeOf : List ℕ → Says
-timeOf [] = other
-timeOf (d ∷ ds) = timeFrom 0 (d ∷ ds)
+unfoldable pub timeSaid : List ℕ → Says
+timeSaid [] = other
+timeSaid (d ∷ ds) = timeFrom 0 (d ∷ ds)
 
 -- R is 82, T is 84
 unfoldable pub fieldOf : ℕ → List ℕ → Says
-fieldOf k ds = cond (eqb k 82) (stretchOf ds) (cond (eqb k 84) (timeOf ds) other)
+fieldOf k ds = cond (eqb k 82) (stretchOf ds) (cond (eqb k 84) (timeSaid ds) other)
 
 -- a tab is 9
 unfoldable pub fieldsOf : List ℕ → Says
@@ -70,10 +66,10 @@ unfoldable pub saysOf : List ℕ → Says
 saysOf l = cond (leb (length l) 2000) (fieldsOf l) other
 
 -- the stretch of a line: only such a line has one
-unfoldable pub heardIn : Says → List ℕ
-heardIn (stretch s) = s
-heardIn (time v) = []
-heardIn other = []
+unfoldable pub stretchIn : Says → List ℕ
+stretchIn (stretch s) = s
+stretchIn (time v) = []
+stretchIn other = []
 
 -- what is answered: of a stretch how long it is
 unfoldable pub lineOf : Says → Line
@@ -111,5 +107,5 @@ unfoldable pub shownOf : ℕ → ℕ → List ℕ → List ℕ
 shownOf number outcome reply = columnOf number ++ columnOf outcome ++ replyOf reply ++ (10 ∷ [])
 
 -- for a line of another form
-unfoldable pub otherOf : ℕ → List ℕ
-otherOf number = columnOf number ++ (45 ∷ 9 ∷ 45 ∷ 10 ∷ [])
+unfoldable pub otherLine : ℕ → List ℕ
+otherLine number = columnOf number ++ (45 ∷ 9 ∷ 45 ∷ 10 ∷ [])

@@ -5,8 +5,8 @@ ghost use mathlib.Core.List.{[], _∷_};
 ghost use Prim.Native.Nat.{_+_, _-_, _<_, _≤_, min};
 ghost use lib.ListN.{length, drop};
 ghost use Rattle.chars.specs.Put.{put};
-ghost use Rattle.chars.specs.Gather.{gather};
-ghost use Rattle.lines.specs.Line.{every, hexVal, isHex, pairs, stretchOf, timeOf, saysOf, heardIn, lineOf, decimal, hexDigit, hexOf, replyOf, columnOf, shownOf, otherOf};
+ghost use Rattle.chars.specs.Gather.{gather, every};
+ghost use Rattle.lines.specs.Line.{hexVal, isHex, pairs, stretchOf, timeSaid, saysOf, stretchIn, lineOf, decimal, hexDigit, hexOf, replyOf, columnOf, shownOf, otherLine};
 ghost use Rattle.lines.specs.Wrote.{Wrote};
 
 // What a line says: a stretch of so many characters, which stand in the lent memory; so many milliseconds; or another form.
@@ -65,7 +65,7 @@ fn put_pairs(ds: &[u8], out: &mut [u8])
 
 // All digits are judged before a character is written.
 fn read_stretch(ds: &[u8], out: &mut [u8]) -> Line
-    ensures { λ r. ⌜ (r ≡ lineOf (stretchOf (now (ds .entry)))) × (now (out .exit) ≡ put (now (out .entry)) 0 (heardIn (stretchOf (now (ds .entry))))) ⌝ }
+    ensures { λ r. ⌜ (r ≡ lineOf (stretchOf (now (ds .entry)))) × (now (out .exit) ≡ put (now (out .entry)) 0 (stretchIn (stretchOf (now (ds .entry))))) ⌝ }
 {
     if ds.len() % 2 == 1 {
         return Line::Other;
@@ -78,7 +78,7 @@ fn read_stretch(ds: &[u8], out: &mut [u8]) -> Line
 }
 
 fn read_time(ds: &[u8]) -> Line
-    ensures { λ r. ⌜ r ≡ lineOf (timeOf (now (ds .entry))) ⌝ }
+    ensures { λ r. ⌜ r ≡ lineOf (timeSaid (now (ds .entry))) ⌝ }
 {
     if ds.len() == 0 {
         return Line::Other;
@@ -104,7 +104,7 @@ fn read_time(ds: &[u8]) -> Line
 
 // A stretch for which `out` is too short is clipped; the answer says how long it is all the same.
 pub fn read_line(line: &[u8], out: &mut [u8]) -> Line
-    ensures { λ r. ⌜ (r ≡ lineOf (saysOf (now (line .entry)))) × (now (out .exit) ≡ put (now (out .entry)) 0 (heardIn (saysOf (now (line .entry))))) ⌝ }
+    ensures { λ r. ⌜ (r ≡ lineOf (saysOf (now (line .entry)))) × (now (out .exit) ≡ put (now (out .entry)) 0 (stretchIn (saysOf (now (line .entry))))) ⌝ }
 {
     if 2000 < line.len() {
         return Line::Other;
@@ -229,7 +229,7 @@ pub fn write_line(out: &mut [u8], number: u64, outcome: u8, reply: &[u8]) -> usi
 }
 
 pub fn write_other(out: &mut [u8], number: u64) -> usize
-    ensures { λ r. ⌜ (now (out .exit) ≡ put (now (out .entry)) 0 (otherOf number)) × (r ≡ min (length (otherOf number)) (length (now (out .entry)))) ⌝ }
+    ensures { λ r. ⌜ (now (out .exit) ≡ put (now (out .entry)) 0 (otherLine number)) × (r ≡ min (length (otherLine number)) (length (now (out .entry)))) ⌝ }
 {
     let a = put_column(out, 0, number);
     let b = put_one(out, a, b'-');

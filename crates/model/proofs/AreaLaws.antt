@@ -14,7 +14,7 @@ use Rattle.model.specs.Scan.{counts}
 use Rattle.model.specs.Inputs.{Changed, hasAccumulator, setWordOf, pulsesOf, resetCountOf}
 use Rattle.model.specs.Calculations.{setValueOf}
 use Rattle.model.specs.Control.{isOf}
-use Rattle.model.specs.Blocks.{Executed, baseOf, notExecuted, reaches, executes, executeWhen, executeOf}
+use Rattle.model.specs.Blocks.{Executed, ordinalStart, notExecuted, reaches, executes, executeWhen, executeOf}
 use Rattle.model.specs.declared.Outcome.{Outcome}
 use Rattle.model.specs.declared.Pending.{Pending}
 use Rattle.model.specs.declared.Pending.the-variants.{NoWrite, Waits}
@@ -68,7 +68,7 @@ module _ (fixed block : List ℕ) where
       by-cond (BothLong fixed block) (reaches fixed block o bias (length ys))
       (λ e.
       record {
-        fixed = by-cond (λ (xs : List ℕ). length xs ≡ length fixed) (eqb o 0x06) (λ e. refl) (λ e. length-put fixed (baseOf o + bias) ys);
+        fixed = by-cond (λ (xs : List ℕ). length xs ≡ length fixed) (eqb o 0x06) (λ e. refl) (λ e. length-put fixed (ordinalStart o + bias) ys);
         block = by-cond (λ (xs : List ℕ). length xs ≡ length block) (eqb o 0x06) (λ e. length-put block bias ys) (λ e. refl);
       })
       (λ e. notExecuted-long _)

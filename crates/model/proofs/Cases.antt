@@ -7,7 +7,7 @@ use mathlib.Core.Bool.{Bool, true, false, cond}
 use lib.ListN.{length, getD, take, set, replicate}
 use Rattle.chars.specs.Put.{put, part}
 use Rattle.chars.specs.Word.{word, value, wordAt}
-use Rattle.chars.specs.Gather.{gather, upFrom}
+use Rattle.chars.specs.Gather.{gather, upFrom, every}
 use Rattle.checkword.specs.Check.{bitStep, bitSteps, charStep, checkFrom, checkOf}
 use Rattle.model.specs.Frame.{
   Request,
@@ -24,19 +24,7 @@ use Rattle.model.specs.Frame.{
   replyChars,
 }
 use Rattle.model.specs.Outcome.{damaged, replyFunction, answerNumber}
-use Rattle.model.specs.Config.{
-  Config,
-  has,
-  within,
-  accumulator,
-  every,
-  noneIn,
-  fileValid,
-  validOf,
-  hasFile,
-  hasCalculation,
-  sizeOf,
-}
+use Rattle.model.specs.Config.{Config, has, within, accumulator, noneIn, fileValid, validOf, hasFile, hasCalculation, sizeOf}
 use Rattle.model.specs.State.{
   Areas,
   History,
@@ -55,7 +43,7 @@ use Rattle.model.specs.Change.{applied, addedBy, changedBy}
 use Rattle.model.specs.Scan.{counts, withNoData}
 use Rattle.model.specs.Inputs.{unreserved, chosen, wordOf, inputsOf, hasAccumulator, pulsesOf}
 use Rattle.model.specs.Control.{isOf, takes, selectWhen, operateWhen, selectOf, controlOf, operates, breaks, heldAfter}
-use Rattle.model.specs.Blocks.{known, baseOf, blockOf, reaches, waitsFor, writeWhen, writeOf, notExecuted, executes, executeWhen, executeOf, dropped, waitsAfter}
+use Rattle.model.specs.Blocks.{known, ordinalStart, blockOf, reaches, waitsFor, writeWhen, writeOf, notExecuted, executes, executeWhen, executeOf, dropped, waitsAfter}
 use Rattle.model.specs.Clock.{bcd, fromBcd, digits, clockFits, timeIn, digitsFit, setTimeOf, timeOf, clockAt, clockAfter}
 use Rattle.model.specs.History.{
   acknowledges,
@@ -117,7 +105,7 @@ use Rattle.model.specs.Step.{
   localOf,
   makeOf,
 }
-use Rattle.model.specs.Port.{portStatus, sentChars, markAfter, silentAfter, portHeard, portAfter}
+use Rattle.model.specs.Port.{markNumber, portStatus, sentChars, markAfter, silentAfter, portHeard, portAfter}
 use Rattle.model.specs.Run.{short, turnedAway, shows, moves, decided, Result, resultOf, nextOf, afterFrom, after}
 use Rattle.model.specs.Bench.{benchConfig, hears}
 use Rattle.model.specs.declared.Action.{Action}
@@ -282,11 +270,11 @@ unfolding
     heldIn storeIn cutIn applied addedBy changedBy freshCore freshAreas freshHistory freshPort freshOf counts withNoData
     unreserved chosen wordOf inputsOf hasAccumulator pulsesOf
     isOf takes selectWhen operateWhen selectOf controlOf operates breaks heldAfter
-    known baseOf blockOf reaches waitsFor writeWhen writeOf notExecuted executes executeWhen executeOf dropped waitsAfter
+    known ordinalStart blockOf reaches waitsFor writeWhen writeOf notExecuted executes executeWhen executeOf dropped waitsAfter
     bcd fromBcd digits clockFits timeIn digitsFit setTimeOf timeOf clockAt clockAfter
     acknowledges dumps fileOf flat historyChars freedFor mostOf toldFrom tellOf historyOf recordChars storedWhen storedAs
     masterFits holdFits writeFits coreFits givable replyFits memoryFits fileFits historyFits areasFit portFits fits
     controlled timed written executed scanned internalOf otherOf statusOf sentAs answered quiet settled finished alone telling internalStep stepOf
     served framed judged coreAfter elapsedMade localMade wordMade notedIn storeMade localOf makeOf
-    portStatus sentChars markAfter silentAfter portHeard portAfter short turnedAway shows moves decided resultOf nextOf afterFrom
+    markNumber portStatus sentChars markAfter silentAfter portHeard portAfter short turnedAway shows moves decided resultOf nextOf afterFrom
 cases = record { numbered = refl; met = refl }

@@ -6,8 +6,7 @@ use mathlib.Core.Bool.{Bool, true, false, cond, _&&_, _||_}
 use lib.Dec.{eqb}
 use native.Mathlib.Omega.{arith}
 use borrow.Author.Tests.{eqb-true, eqb-false}
-use Rattle.chars.specs.Gather.{upFrom}
-use Rattle.model.specs.Config.{every}
+use Rattle.chars.specs.Gather.{upFrom, every}
 
 -- what both cases of a choice have, the choice has
 pub by-cond {ℓ κ} : {A : Type ℓ} (P : A → Type κ) (b : Bool) {x y : A} → (b ≡ true → P x) → (b ≡ false → P y) → P (cond b x y)

@@ -13,7 +13,7 @@ use Rattle.chars.proofs.WordLaws.{length-word}
 use Rattle.checkword.specs.Check.{checkOf}
 use Rattle.model.specs.Limits.{longestReply}
 use Rattle.model.specs.Frame.{Request, heardOf, withCheck, headChars, replyChars, frameChars}
-use Rattle.model.specs.Sound.{Sound, headOf}
+use Rattle.model.specs.Sound.{Sound, requestHead}
 use Rattle.model.specs.Config.{Config, validOf}
 use Rattle.model.specs.State.{Inner, State, freshPort, freshOf}
 use Rattle.model.specs.Fits.{portFits, fits}
@@ -22,7 +22,7 @@ use Rattle.model.specs.Step.{Sent, silent, said, Made, quiet, judged, ma
 use Rattle.model.specs.Port.{portStatus, sentChars}
 use Rattle.model.specs.Run.{short, Result, turnedAway, shows, moves, decided, resultOf, nextOf, Entry, entryOf, afterFrom, traceFrom, after}
 use Rattle.model.specs.Formed.{AllGiven}
-use Rattle.model.specs.Damage.{Good, Damaged, cut, changed, Checked, Alike, AlikeEntry, AlikeTrace, none, more, Spoilt, clean, intact, spoilt}
+use Rattle.model.specs.Damage.{Good, Damaged, cut, changed, Checked, AlikeReply, AlikeEntry, AlikeTrace, none, more, Spoilt, clean, intact, spoilt}
 use Rattle.model.specs.Demand3.{Ends, Unseen}
 use Rattle.model.specs.declared.Outcome.{Outcome}
 use Rattle.model.specs.declared.Outcome.the-variants.{NotWhole, CheckWrong, NotConfigured, BufferShort}
@@ -41,7 +41,7 @@ use Rattle.model.proofs.TurnedAway.{short-away, unfit-away, works}
 -- what a master lays out is a good frame
 pub good-sent : (q : Request) → Sound q → Good (frameChars q)
 good-sent q h =
-    record { characters = sent-characters q h; head = headOf q; whole = heard-whole (frameChars q) (headOf q) (read-back q h .0) }
+    record { characters = sent-characters q h; head = requestHead q; whole = heard-whole (frameChars q) (requestHead q) (read-back q h .0) }
 
 -- it is heard as no whole frame, or with a wrong check
 pub unheard : {t : List ℕ} → Damaged t → (heardOf t ≡ Broken) ⊎ (heardOf t ≡ Wrong)
@@ -102,10 +102,10 @@ module _ (a b : Mark) where
   same-sent silent i l ne = refl
   same-sent (said r) i l ne = same-chars _ _ _ _ (portStatus a) (portStatus b) _ _ (r .chars) _ _ _ _ i l ne
 
-  alike-chars : (x : Sent) → Alike (sentChars a x) (sentChars b x)
+  alike-chars : (x : Sent) → AlikeReply (sentChars a x) (sentChars b x)
   alike-chars x = record { long = long-chars x; same = same-sent x; left = checked-chars a x; right = checked-chars b x }
 
-alike-none : Alike [] []
+alike-none : AlikeReply [] []
 alike-none = record { long = refl; same = λ i l ne. refl; left = inl refl; right = inl refl }
 
 -- ---- two units that differ in the port alone

@@ -17,7 +17,7 @@ use Rattle.checkword.specs.Check.{checkOf}
 use Rattle.checkword.specs.Line.{Burst}
 use Rattle.checkword.proofs.Frame.{checkOf-lt, stretch}
 use Rattle.model.specs.Frame.{Request, unitOf, masterOf, addressOf, whole, checked, frameIn, heardOf, requestIn, withCheck, frameChars}
-use Rattle.model.specs.Sound.{Sound, headOf, WholeFrame}
+use Rattle.model.specs.Sound.{Sound, requestHead, WholeFrame}
 use Rattle.model.specs.declared.Master.{Master}
 use Rattle.model.specs.declared.Frame.{Frame}
 use Rattle.model.specs.declared.Heard.{Heard}
@@ -156,16 +156,16 @@ module _ (q : Request) where
   unfolding frameChars withCheck word wordAt
   count-read = omega arith
 
-  head-read : frameIn (frameChars q) ≡ headOf q
-  unfolding frameIn headOf
+  head-read : frameIn (frameChars q) ≡ requestHead q
+  unfolding frameIn requestHead
   head-read = rw (address-read, function-read, command-read, count-read)
 
   body-read : part (frameChars q) 6 (length (q .body)) ≡ q .body
   unfolding part frameChars withCheck word
   body-read = take-at (q .body) _ (length (q .body)) refl
 
-  frame-whole : length (q .body) ≤ 128 → WholeFrame (frameChars q) (headOf q)
-  unfolding headOf
+  frame-whole : length (q .body) ≤ 128 → WholeFrame (frameChars q) (requestHead q)
+  unfolding requestHead
   frame-whole h =
       let e : frameChars q ≡ withCheck (before-check q) = (unfold frameChars before-check in refl) in
       let l : length (frameChars q) ≡ 8 + length (q .body) = rw e (omega (arith, checked-long (before-check q), length-before q)) in
@@ -177,17 +177,17 @@ module _ (q : Request) where
         check = rw e (checked-right (before-check q));
       }
 
-  pub read-back : Sound q → (heardOf (frameChars q) ≡ Whole (headOf q)) × (requestIn (headOf q) (frameChars q) ≡ q)
-  unfolding requestIn headOf
+  pub read-back : Sound q → (heardOf (frameChars q) ≡ Whole (requestHead q)) × (requestIn (requestHead q) (frameChars q) ≡ q)
+  unfolding requestIn requestHead
   read-back h = (
-    whole-heard (frameChars q) (headOf q) (frame-whole (h .most)),
+    whole-heard (frameChars q) (requestHead q) (frame-whole (h .most)),
     ap (λ (l : List ℕ). record { address = q .address; function = q .function; command = q .command; body = l }) body-read,
   )
 
   -- and so are the master and the unit that the address was joined of
   pub read-names : (m : Master) (u : ℕ) → m .0 < 32 → u < 2048 → q .address ≡ addressOf m u
-      → (masterOf (headOf q .address) ≡ m) × (unitOf (headOf q .address) ≡ u)
-  unfolding headOf
+      → (masterOf (requestHead q .address) ≡ m) × (unitOf (requestHead q .address) ≡ u)
+  unfolding requestHead
   read-names m u h k e = rw e (joined-master m u h, joined-unit m u k)
 
   before-characters : Sound q → Characters (before-check q)

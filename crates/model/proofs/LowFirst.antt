@@ -14,7 +14,7 @@ use Rattle.model.specs.Outcome.{numberOf}
 use Rattle.model.specs.Config.{has}
 use Rattle.model.specs.Scan.{Scan, refuses, counts, withNoData}
 use Rattle.model.specs.Inputs.{unreserved, chosen, wordOf, inputsOf}
-use Rattle.model.specs.Tables.{tableOf, numbersOf, sendable, wordIn, sendOf, tableScan}
+use Rattle.model.specs.Tables.{tableOf, tableNumbers, sendable, wordIn, sendOf, tableScan}
 use Rattle.model.specs.History.{recordChars}
 use Rattle.model.specs.Laws.{LowFirst, equipped}
 use Rattle.model.specs.declared.Outcome.{Outcome}
@@ -85,14 +85,14 @@ module _ (table xs : List ℕ) where
 -- function 0Ah: the words of the three tables
 pub tables-low-first : (table area xs : List ℕ) (k : ℕ)
     → Ordered (λ n. getD xs n 0)
-    (numbersOf area (tableOf area (tableOf area k .nibbles / 16)) ++ (numbersOf area (tableOf area (tableOf area k .nibbles % 16)) ++ numbersOf area (tableOf area k)))
+    (tableNumbers area (tableOf area (tableOf area k .nibbles / 16)) ++ (tableNumbers area (tableOf area (tableOf area k .nibbles % 16)) ++ tableNumbers area (tableOf area k)))
     (tableScan table area xs k)
 unfolding tableScan sendOf wordIn
 tables-low-first table area xs k =
     let one = tableOf area (tableOf area k .nibbles / 16) in
     let two = tableOf area (tableOf area k .nibbles % 16) in
     let own = tableOf area k in
-    let ns = numbersOf area one ++ (numbersOf area two ++ numbersOf area own) in
+    let ns = tableNumbers area one ++ (tableNumbers area two ++ tableNumbers area own) in
     let P : Scan → Type 0 = Ordered (λ n. getD xs n 0) ns in
     by-cond P (sendable table area own && (sendable table area one && sendable table area two))
     (λ a. by-cond P (ltb 255 (one .quantity + two .quantity + own .quantity)) (λ b. never TooLong refl) (λ b e. low-first (λ n. getD xs n 0) ns))

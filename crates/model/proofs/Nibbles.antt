@@ -11,9 +11,10 @@ use native.Mathlib.Nat.{zero-add, suc-add}
 use native.Mathlib.Omega.{arith}
 use borrow.Author.Tests.{leb-true, ltb-true, ltb-false, eqb-true, eqb-false}
 use Rattle.chars.specs.Put.{put, part}
+use Rattle.chars.specs.Gather.{every}
 use Rattle.chars.proofs.PutLaws.{put-one, part-put-before, part-put-after}
-use Rattle.model.specs.Config.{has, every}
-use Rattle.model.specs.Tables.{standsAt, tableAt, endOf, startOf, tableOf, numbersOf, sendable, sendOf, tableScan}
+use Rattle.model.specs.Config.{has}
+use Rattle.model.specs.Tables.{standsAt, tableAt, endOf, startOf, tableOf, tableNumbers, sendable, sendOf, tableScan}
 use Rattle.model.specs.Laws.{SeenAlike}
 use Rattle.model.specs.declared.Table.{Table}
 use Rattle.model.proofs.Conditions.{by-bool, and-left}
@@ -100,11 +101,11 @@ module _ (xs : List ℕ) (p : ℕ) where
   unfolding tableAt
   quantity-at e = simp e
 
-  numbers-at : standsAt xs p ≡ true → numbersOf xs (tableAt xs p) ≡ part xs (p + 2) (getD xs (p + 1) 0)
+  numbers-at : standsAt xs p ≡ true → tableNumbers xs (tableAt xs p) ≡ part xs (p + 2) (getD xs (p + 1) 0)
   unfolding tableAt
   numbers-at e = simp e
 
-  numbers-none : standsAt xs p ≡ false → numbersOf xs (tableAt xs p) ≡ []
+  numbers-none : standsAt xs p ≡ false → tableNumbers xs (tableAt xs p) ≡ []
   unfolding tableAt part
   numbers-none e = simp e
 
@@ -191,7 +192,7 @@ module _ (xs : List ℕ) (j y : ℕ) (stands : standsAt xs (startOf xs j) ≡ tr
       ∙ by-bool (eqb i j) (λ e. rw (eqb-true i j e) own) (λ e. others i (eqb-false i j e))
 
   numbers-same : (i : ℕ) → (i ≡ j → ⊥)
-      → numbersOf (renamed xs j y) (tableAt (renamed xs j y) (startOf xs i)) ≡ numbersOf xs (tableAt xs (startOf xs i))
+      → tableNumbers (renamed xs j y) (tableAt (renamed xs j y) (startOf xs i)) ≡ tableNumbers xs (tableAt xs (startOf xs i))
   numbers-same i n =
       by-bool (standsAt xs (startOf xs i))
       (λ e.
@@ -201,7 +202,7 @@ module _ (xs : List ℕ) (j y : ℕ) (stands : standsAt xs (startOf xs j) ≡ tr
       ∙ sym (numbers-at xs (startOf xs i) e))
       (λ e. numbers-none (renamed xs j y) (startOf xs i) (stands-same i n ∙ e) ∙ sym (numbers-none xs (startOf xs i) e))
 
-  own-numbers : numbersOf (renamed xs j y) (tableAt (renamed xs j y) (startOf xs j)) ≡ numbersOf xs (tableAt xs (startOf xs j))
+  own-numbers : tableNumbers (renamed xs j y) (tableAt (renamed xs j y) (startOf xs j)) ≡ tableNumbers xs (tableAt xs (startOf xs j))
   own-numbers =
       let k : startOf xs j + 1 ≤ startOf xs j + 2 = omega arith in
       numbers-at (renamed xs j y) (startOf xs j) stays
@@ -225,6 +226,6 @@ module _ (xs : List ℕ) (j y : ℕ) (stands : standsAt xs (startOf xs j) ≡ tr
             (present-at (renamed xs j y) (startOf xs j) stays ∙ sym (present-at xs (startOf xs j) stands));
         quantity = by-table (λ zs t. t .quantity) (unfold tableOf in refl) (λ i m. ap (λ (t : Table). t .quantity) (table-same i m))
             (quantity-at (renamed xs j y) (startOf xs j) stays ∙ count-same ∙ sym (quantity-at xs (startOf xs j) stands));
-        numbers = by-table numbersOf (unfold tableOf part in refl) numbers-same own-numbers;
+        numbers = by-table tableNumbers (unfold tableOf part in refl) numbers-same own-numbers;
         nibbles = other-nibbles k n;
       })

@@ -7,11 +7,11 @@ use lib.ListN.{length, getD, length-append}
 use lib.Dec.{eqb, leb, ltb}
 use native.Mathlib.Omega.{arith}
 use borrow.Author.Tests.{eqb-true, leb-true, le-leb, ltb-true, lt-ltb, eq-eqb}
-use Rattle.chars.specs.Gather.{upFrom}
+use Rattle.chars.specs.Gather.{upFrom, every}
 use Rattle.chars.specs.Word.{Characters, wordAt}
 use Rattle.model.specs.Limits.{holdTime, fileRoom}
 use Rattle.model.specs.Frame.{Request, masterOf, frameIn, requestIn}
-use Rattle.model.specs.Config.{Config, has, within, every, hasFile}
+use Rattle.model.specs.Config.{Config, has, within, hasFile}
 use Rattle.model.specs.State.{Files, History, heldIn, storeIn}
 use Rattle.model.specs.Change.{stays, adds, applied, changedBy}
 use Rattle.model.specs.Scan.{counts}
@@ -26,7 +26,7 @@ use Rattle.model.specs.Control.{
   controlOf,
   heldAfter,
 }
-use Rattle.model.specs.Blocks.{Written, waitsFor, writeWhen, writeOf, waitsAfter}
+use Rattle.model.specs.Blocks.{WriteResult, waitsFor, writeWhen, writeOf, waitsAfter}
 use Rattle.model.specs.Clock.{Timed, clockFits, timeIn, digitsFit, setTimeOf, clockAt, clockAfter}
 use Rattle.model.specs.History.{fileOf, freedFor, mostOf, toldFrom}
 use Rattle.model.specs.Fits.{masterFits, holdFits, writeFits, givable, replyFits, memoryFits, fileFits, historyFits}
@@ -144,7 +144,7 @@ module _ (c : Config) where
 
 -- ---- the write
 
-WriteFits : Written → Type 0
+WriteFits : WriteResult → Type 0
 WriteFits r = writeFits (r .write) ≡ true
 
 waits-fits : (w : Write) → masterFits (w .master) ≡ true → w .age ≤ holdTime → writeFits (Waits w) ≡ true

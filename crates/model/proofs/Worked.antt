@@ -10,12 +10,12 @@ use borrow.Author.Tests.{ltb-true}
 use native.Mathlib.Omega.{arith}
 use Rattle.chars.specs.Put.{part}
 use Rattle.chars.specs.Word.{Characters, word, wordAt}
-use Rattle.chars.specs.Gather.{gather, upFrom}
+use Rattle.chars.specs.Gather.{gather, upFrom, every}
 use Rattle.checkword.specs.Check.{bitStep, bitSteps, charStep, checkFrom}
 use Rattle.checkword.proofs.Bursts.{one-character}
 use Rattle.model.specs.Frame.{unitOf, masterOf, whole, checked, frameIn, heardOf, requestIn, withCheck, frameChars, headChars, replyChars}
 use Rattle.model.specs.Outcome.{damaged, replyFunction, answerNumber}
-use Rattle.model.specs.Config.{Config, has, within, every, noneIn, fileValid, validOf, hasFile, sizeOf}
+use Rattle.model.specs.Config.{Config, has, within, noneIn, fileValid, validOf, hasFile, sizeOf}
 use Rattle.model.specs.State.{heldIn, storeIn, cutIn, freshCore, freshAreas, freshHistory, freshPort, freshOf}
 use Rattle.model.specs.Change.{applied, addedBy, changedBy}
 use Rattle.model.specs.Scan.{counts}
@@ -25,9 +25,9 @@ use Rattle.model.specs.Clock.{bcd, clockFits, timeOf, clockAt, clockAfte
 use Rattle.model.specs.History.{acknowledges, dumps, fileOf, flat, historyChars, freedFor, mostOf, toldFrom, agrees, againWhen, tellOf, historyOf, recordChars, storedWhen, storedAs}
 use Rattle.model.specs.Fits.{masterFits, holdFits, writeFits, coreFits, givable, replyFits, memoryFits, fileFits, historyFits, areasFit, portFits, fits}
 use Rattle.model.specs.Event.{store, Event, elapsed, local}
-use Rattle.model.specs.Bench.{coming, hears}
+use Rattle.model.specs.Bench.{withRoom, hears}
 use Rattle.model.specs.Step.{scanned, statusOf, sentAs, answered, quiet, settled, finished, telling, stepOf, served, framed, judged, coreAfter, elapsedMade, notedIn, storeMade, localOf, makeOf}
-use Rattle.model.specs.Port.{portStatus, sentChars, markAfter, silentAfter, portHeard, portAfter}
+use Rattle.model.specs.Port.{markNumber, portStatus, sentChars, markAfter, silentAfter, portHeard, portAfter}
 use Rattle.model.specs.Run.{short, turnedAway, shows, moves, decided, resultOf, nextOf, Entry, entryOf, afterFrom, traceFrom, after, trace}
 use Rattle.model.specs.Formed.{AllGiven}
 use Rattle.model.specs.Line.{chunks, carried, shownFor, shownIn, shownBy, shown, latestAfter, releasedBy, latestFrom, releasedFrom, wasKept, storedLocally, storedBy, storedIn, latestIn, releasedIn}
@@ -107,7 +107,7 @@ unfolding
     acknowledges dumps fileOf flat historyChars freedFor mostOf toldFrom agrees againWhen tellOf historyOf recordChars storedWhen storedAs
     masterFits holdFits writeFits coreFits givable replyFits memoryFits fileFits historyFits areasFit portFits fits
     scanned statusOf sentAs answered quiet settled finished telling stepOf served framed judged coreAfter elapsedMade notedIn storeMade localOf makeOf
-    portStatus sentChars markAfter silentAfter portHeard portAfter short turnedAway shows moves decided resultOf nextOf entryOf afterFrom traceFrom
+    markNumber portStatus sentChars markAfter silentAfter portHeard portAfter short turnedAway shows moves decided resultOf nextOf entryOf afterFrom traceFrom
     chunks carried shownFor shownIn shownBy shown latestAfter releasedBy latestFrom releasedFrom wasKept storedLocally storedBy storedIn
 worked =
     record {
@@ -149,8 +149,8 @@ changed-one = changed good-one (by-small (set one 3 0x60) refl) (one-character o
 given : AllGiven before-cut
 given = (tt, (tt, (tt, (by-small one refl, tt))))
 
-pub cut-unseen : Unseen unit before-cut (coming (take 7 one)) after-cut
-cut-unseen = demand-3 unit .damage before-cut (coming (take 7 one)) cut-one after-cut
+pub cut-unseen : Unseen unit before-cut (withRoom (take 7 one)) after-cut
+cut-unseen = demand-3 unit .damage before-cut (withRoom (take 7 one)) cut-one after-cut
 
 pub cut-ends : (resultOf unit (after unit before-cut) torn .answer ≡ Ended NotWhole) ⊎ (resultOf unit (after unit before-cut) torn .answer ≡ Ended CheckWrong)
 cut-ends = cut-unseen .ends .damaged (lit≤ tt) (worked .valid) given

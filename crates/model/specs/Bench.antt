@@ -19,8 +19,8 @@ benchConfig =
     }
 
 -- with a buffer that is just long enough
-abbrev pub coming : List ℕ → Stretch
-coming s = record { room = longestReply; chars = s }
+abbrev pub withRoom : List ℕ → Stretch
+withRoom s = record { room = longestReply; chars = s }
 
 abbrev pub hears : List ℕ → Event
-hears s = stretch (coming s)
+hears s = stretch (withRoom s)

@@ -24,8 +24,8 @@ unfoldable pub known : ℕ → Bool
 known o = eqb o 0x00 || (eqb o 0x03 || (eqb o 0x06 || eqb o 0x0B))
 
 -- where an ordinal of the fixed area starts: 00 has 16 characters, 03 and 0Bh have 256 each (Write 1)
-unfoldable pub baseOf : ℕ → ℕ
-baseOf o = cond (eqb o 0x00) 0 (cond (eqb o 0x03) 16 272)
+unfoldable pub ordinalStart : ℕ → ℕ
+ordinalStart o = cond (eqb o 0x00) 0 (cond (eqb o 0x03) 16 272)
 
 -- the characters of an ordinal, from whichever of the two areas holds it (Write 1, 2)
 unfoldable pub blockOf : List ℕ → List ℕ → ℕ → List ℕ
@@ -41,21 +41,21 @@ unfoldable pub reaches : List ℕ → List ℕ → ℕ → ℕ → ℕ → Bool
 reaches fixed block o bias n = known o && leb (bias + n) (length (blockOf fixed block o))
 
 -- what a WRITE comes to
-pub record Written : Type 0 where
+pub record WriteResult : Type 0 where
   pub says : Scan
   pub write : Pending
 
 -- a WRITE is taken, and waits (Write 5)
-unfoldable pub waitsFor : Master → ℕ → ℕ → Written
+unfoldable pub waitsFor : Master → ℕ → ℕ → WriteResult
 waitsFor m bias o = record { says = record { outcome = WriteTaken; chars = [] }; write = Waits (record { master = m; bias = bias; ordinal = record { 0 = o }; age = 0 }) }
 
 -- 20h/30h: another master's write stands; a master's own is replaced (Write 4, 5)
-unfoldable pub writeWhen : Pending → Master → ℕ → ℕ → Written
+unfoldable pub writeWhen : Pending → Master → ℕ → ℕ → WriteResult
 writeWhen NoWrite m bias o = waitsFor m bias o
 writeWhen (Waits w) m bias o = cond (isOf (w .master) m) (waitsFor m bias o) (record { says = refuses WriteHeld; write = Waits w })
 
 -- 20h/30h: bias word and ordinal, which EXECUTE judges (Write 3; paper 6.4)
-unfoldable pub writeOf : Pending → Request → Written
+unfoldable pub writeOf : Pending → Request → WriteResult
 writeOf p q =
     cond (counts 3 q) (writeWhen p (masterOf (q .address)) (wordAt (q .body) 0) (getD (q .body) 2 0)) (record { says = refuses WrongCount; write = p })
 
@@ -76,7 +76,7 @@ executes fixed block o bias ys =
     cond (reaches fixed block o bias (length ys))
     (record {
       says = tells [];
-      fixed = cond (eqb o 0x06) fixed (put fixed (baseOf o + bias) ys);
+      fixed = cond (eqb o 0x06) fixed (put fixed (ordinalStart o + bias) ys);
       block = cond (eqb o 0x06) (put block bias ys) block;
       configures = eqb o 0x03;
       clears = eqb o 0x00;

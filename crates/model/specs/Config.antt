@@ -5,7 +5,7 @@ use mathlib.Core.Bool.{Bool, true, false, cond, not, _&&_, _||_}
 use lib.ListN.{getD}
 use lib.Dec.{eqb, leb, ltb}
 use Rattle.chars.specs.Put.{part}
-use Rattle.chars.specs.Gather.{upFrom}
+use Rattle.chars.specs.Gather.{upFrom, every}
 use Rattle.model.specs.Limits.{mostValues, recordSize}
 
 -- unit address; the equipped inputs, outputs and calculations, each a table of 256 in which 0 is not equipped; the 32 files
@@ -41,11 +41,6 @@ analogs = upFrom 0x80 128
 
 unfoldable pub accumulator : ℕ → Bool
 accumulator n = within 0x40 0x5F n
-
--- every number of a list passes
-unfoldable pub every : (ℕ → Bool) → List ℕ → Bool
-every f [] = true
-every f (n ∷ ns) = f n && every f ns
 
 -- none of the n numbers from low on is equipped
 unfoldable pub noneIn : List ℕ → ℕ → ℕ → Bool

@@ -28,7 +28,7 @@ abbrev pub Checked : List ℕ → Type 0
 Checked r = (r ≡ []) ⊎ (r ≡ withCheck (take (length r - 2) r))
 
 -- the same reply but for the port status, the fifth character, and the check over it, the last two
-pub record Alike (x y : List ℕ) : Type 0 where
+pub record AlikeReply (x y : List ℕ) : Type 0 where
   pub long : length x ≡ length y
   pub same : (i : ℕ) → i + 2 < length x → (i ≡ 4 → ⊥) → getD x i 0 ≡ getD y i 0
   pub left : Checked x
@@ -40,7 +40,7 @@ pub record AlikeEntry (a b : Entry) : Type 0 where
   pub event : a .event ≡ b .event
   pub answer : a .result .answer ≡ b .result .answer
   pub action : a .result .action ≡ b .result .action
-  pub reply : Alike (a .result .reply) (b .result .reply)
+  pub reply : AlikeReply (a .result .reply) (b .result .reply)
 
 -- two traces alike, entry by entry
 pub data AlikeTrace : List Entry → List Entry → Type 0 where

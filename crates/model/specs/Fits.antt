@@ -4,9 +4,9 @@ use mathlib.Core.List.{List, [], _∷_}
 use mathlib.Core.Bool.{Bool, true, false, cond, not, _&&_, _||_}
 use lib.ListN.{length}
 use lib.Dec.{eqb, leb, ltb}
-use Rattle.chars.specs.Gather.{upFrom}
+use Rattle.chars.specs.Gather.{upFrom, every}
 use Rattle.model.specs.Limits.{holdTime, silenceLimit, fileRoom}
-use Rattle.model.specs.Config.{Config, validOf, has, every, hasFile}
+use Rattle.model.specs.Config.{Config, validOf, has, hasFile}
 use Rattle.model.specs.State.{Areas, Files, History, Inner, State, heldIn}
 use Rattle.model.specs.Clock.{clockFits}
 use Rattle.model.specs.History.{mostOf}

@@ -7,13 +7,13 @@ use lib.ListN.{length, getD}
 use Rattle.chars.specs.Word.{wordAt}
 use Rattle.model.specs.Config.{has}
 use Rattle.model.specs.State.{State}
-use Rattle.model.specs.Tables.{tableOf, numbersOf}
+use Rattle.model.specs.Tables.{tableOf, tableNumbers}
 
 -- two table areas have the same tables, as far as a scan of table k may see: of all the numbers, and of k the nibbles (Scans 13, 14)
 pub record SeenAlike (xs ys : List ℕ) (k : ℕ) : Type 0 where
   pub present : (j : ℕ) → tableOf xs j .present ≡ tableOf ys j .present
   pub quantity : (j : ℕ) → tableOf xs j .quantity ≡ tableOf ys j .quantity
-  pub numbers : (j : ℕ) → numbersOf xs (tableOf xs j) ≡ numbersOf ys (tableOf ys j)
+  pub numbers : (j : ℕ) → tableNumbers xs (tableOf xs j) ≡ tableNumbers ys (tableOf ys j)
   pub nibbles : tableOf xs k .nibbles ≡ tableOf ys k .nibbles
 
 -- select, write and history, the latest history reply among it, are as they were (Outcomes 11)

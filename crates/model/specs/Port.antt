@@ -17,7 +17,7 @@ use Rattle.model.specs.declared.Mark.the-variants.{Fine, Silent, Damaged
 use Rattle.model.specs.declared.Port.{Port}
 
 -- the two bits of a mark (Frames 13, 14; paper 1.2.5)
-abbrev pub markNumber : Mark → ℕ
+unfoldable pub markNumber : Mark → ℕ
 markNumber Fine = 0
 markNumber Silent = 1
 markNumber Damaged = 2

@@ -18,8 +18,8 @@ pub record Sound (q : Request) : Type 0 where
   pub most : length (q .body) ≤ 128
 
 -- the head of a request
-unfoldable pub headOf : Request → Frame
-headOf q = record { address = q .address; function = q .function; command = q .command; count = length (q .body) }
+unfoldable pub requestHead : Request → Frame
+requestHead q = record { address = q .address; function = q .function; command = q .command; count = length (q .body) }
 
 -- s is a whole frame with the head f
 pub record WholeFrame (s : List ℕ) (f : Frame) : Type 0 where

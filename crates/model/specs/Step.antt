@@ -14,7 +14,7 @@ use Rattle.model.specs.Inputs.{Changed, inputsOf, setWordOf, pulsesOf, r
 use Rattle.model.specs.Tables.{tablesOf}
 use Rattle.model.specs.Calculations.{calculationsOf, setValueOf}
 use Rattle.model.specs.Control.{Controlled, controlOf, breaks, heldAfter}
-use Rattle.model.specs.Blocks.{Written, Executed, writeOf, executeOf, readOf, dropped, waitsAfter}
+use Rattle.model.specs.Blocks.{WriteResult, Executed, writeOf, executeOf, readOf, dropped, waitsAfter}
 use Rattle.model.specs.Clock.{Timed, setTimeOf, readTimeOf, clockAfter}
 use Rattle.model.specs.History.{Told, historyOf, recordChars, storedAs}
 use Rattle.model.specs.declared.Outcome.{Outcome}
@@ -93,7 +93,7 @@ controlled k a r = record { says = r .says; action = r .action; core = withHold 
 unfoldable pub timed : Core → Areas → Timed → Step
 timed k a r = record { says = r .says; action = Rest; core = withClock k (r .clock); areas = a }
 
-unfoldable pub written : Core → Areas → Written → Step
+unfoldable pub written : Core → Areas → WriteResult → Step
 written k a r = record { says = r .says; action = Rest; core = withWrite k (r .write); areas = a }
 
 -- an accepted EXECUTE clears bit 7 or bit 3 (Frames 10)

@@ -6,9 +6,9 @@ use lib.ListN.{length, getD}
 use lib.Dec.{eqb, leb, ltb}
 use Rattle.chars.specs.Put.{part}
 use Rattle.chars.specs.Word.{word}
-use Rattle.chars.specs.Gather.{gather}
+use Rattle.chars.specs.Gather.{gather, every}
 use Rattle.model.specs.Frame.{Request}
-use Rattle.model.specs.Config.{has, every, within}
+use Rattle.model.specs.Config.{has, within}
 use Rattle.model.specs.Scan.{Scan, tells, refuses, withNoData}
 use Rattle.model.specs.declared.Outcome.the-variants.{Unknown, NotValid, TooLong}
 use Rattle.model.specs.declared.Table.{Table}
@@ -40,12 +40,12 @@ tableOf area zero = record { present = true; nibbles = 0; start = 0; quantity = 
 tableOf area (suc k) = tableAt area (startOf area k)
 
 -- the input numbers of a table
-abbrev pub numbersOf : List ℕ → Table → List ℕ
-numbersOf area t = part area (t .start) (t .quantity)
+abbrev pub tableNumbers : List ℕ → Table → List ℕ
+tableNumbers area t = part area (t .start) (t .quantity)
 
 -- a table can be sent: it is present, and each of its numbers is equipped (Scans 15)
 unfoldable pub sendable : List ℕ → List ℕ → Table → Bool
-sendable table area t = t .present && every (has table) (numbersOf area t)
+sendable table area t = t .present && every (has table) (tableNumbers area t)
 
 unfoldable pub wordIn : List ℕ → ℕ → List ℕ
 wordIn words n = word (getD words n 0)
@@ -56,7 +56,7 @@ sendOf table area words one two own =
     cond (sendable table area own && (sendable table area one && sendable table area two))
     (cond (ltb 255 (one .quantity + two .quantity + own .quantity))
     (refuses TooLong)
-    (tells (gather (wordIn words) (numbersOf area one ++ (numbersOf area two ++ numbersOf area own)))))
+    (tells (gather (wordIn words) (tableNumbers area one ++ (tableNumbers area two ++ tableNumbers area own)))))
     (refuses NotValid)
 
 -- ST1, ST2 and the table itself: only the asked table's nibbles are followed (Scans 13, 14)

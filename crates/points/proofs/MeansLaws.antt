@@ -17,7 +17,7 @@ use Rattle.model.specs.Calculations.{setValueOf}
 use Rattle.model.specs.declared.Outcome.{Outcome}
 use Rattle.model.specs.declared.Outcome.the-variants.{NotValid, WrongCount}
 use Rattle.model.specs.declared.Filled.{Filled}
-use Rattle.layout.specs.Unit.{unitSizes, unitLong, inputsRegion, configOf, unitOf, unitIn, configIn, setWords, setValues, putIn, putWord, putValue}
+use Rattle.layout.specs.Unit.{unitSizes, unitLong, inputsRegion, configFrom, unitFrom, unitIn, configIn, setWords, setValues, putIn, putWord, putValue}
 use Rattle.layout.proofs.UnitLaws.{length-put-in, region-size, word-written, value-written}
 use Rattle.points.specs.Answer.{Sets}
 use Rattle.points.proofs.NumberLaws.{has-below, calculation-below}
@@ -55,13 +55,13 @@ accumulator-has table n e = and-right (accumulator n) (has table n) e
 -- an area kept, or one element of it set, by what m came to
 module _ (u : List ℕ) (long : length u ≡ unitLong) where
   input-below : (n : ℕ) → has (configIn u .inputs) n ≡ true → n < 256
-  unfolding unitSizes unitOf configOf
+  unfolding unitSizes unitFrom configFrom
   input-below n e = omega (arith, has-below _ n e, region-size u long inputsRegion (lit< tt))
 
   module _ {m : Changed} {v : List ℕ} {r : Outcome} where
     words-kept : {x : List ℕ} (o : Outcome) → eqb (numberOf o) 0 ≡ false → Sets m u x v r → m ≡ unchanged o (unitIn u .words)
         → unitIn v ≡ setWords (unitIn u) (m .area)
-    unfolding unitOf
+    unfolding unitFrom
     words-kept o z p e = rw (kept o _ z p e, e)
 
     word-done : (n w : ℕ) (ys : List ℕ) → n < 256 → Sets m u (putWord u n w) v r → m ≡ changes ys (set (unitIn u .words) n w)
@@ -70,7 +70,7 @@ module _ (u : List ℕ) (long : length u ≡ unitLong) where
 
     values-kept : {x : List ℕ} (o : Outcome) → eqb (numberOf o) 0 ≡ false → Sets m u x v r → m ≡ unchanged o (unitIn u .values)
         → unitIn v ≡ setValues (unitIn u) (m .area)
-    unfolding unitOf
+    unfolding unitFrom
     values-kept o z p e = rw (kept o _ z p e, e)
 
     value-done : (n w : ℕ) (ys : List ℕ) → n < 128 → Sets m u (putValue u n w) v r → m ≡ changes ys (set (unitIn u .values) n w)

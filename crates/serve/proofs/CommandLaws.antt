@@ -139,7 +139,7 @@ module _ (i : Inner) {m : Stepped} {a : Areas} {p : Port} {ls entry exit : List 
       (record { ended = w .ended; acted = refl; counted = w .counted; written = w .written; kept = k; areas = refl; tame = t })
 
   -- 20h/30h
-  pub acts-written : {x : blocks.Written} (f : Written) → x .says .chars ≡ [] → m ≡ alone i (written (i .core) (i .areas) x) → WritesAs x f → exit ≡ entry
+  pub acts-written : {x : blocks.WriteResult} (f : Written) → x .says .chars ≡ [] → m ≡ alone i (written (i .core) (i .areas) x) → WritesAs x f → exit ≡ entry
       → r ≡ record { outcome = f .outcome; action = Rest; count = 0 } → Kept (withWrite (i .core) (f .write)) (i .history .memory) p ls → a ≡ i .areas
       → StepPromise m a p ls entry exit r
   unfolding alone written

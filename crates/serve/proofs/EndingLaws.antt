@@ -9,7 +9,7 @@ use Rattle.chars.proofs.PutLaws.{put-none}
 use Rattle.model.specs.Frame.{Request}
 use Rattle.model.specs.Outcome.{sendingOf, replyFunction}
 use Rattle.model.specs.Step.{Said, silent, said, sentAs, answered, statusOf}
-use Rattle.model.specs.Port.{portStatus}
+use Rattle.model.specs.Port.{markNumber, portStatus}
 use Rattle.model.specs.declared.Core.{Core}
 use Rattle.model.specs.declared.Mark.{Mark}
 use Rattle.model.specs.declared.Mark.the-variants.{Fine, Silent, Damaged}
@@ -19,7 +19,7 @@ use Rattle.model.specs.declared.Sending.the-variants.{Normal, Nop, Rst, Unanswe
 use Rattle.model.specs.declared.Reply.{Reply}
 use Rattle.model.proofs.Conditions.{false-true}
 use Rattle.frames.specs.Framed.{framedIn}
-use Rattle.layout.specs.Numbers.{markNumber, numbersOf, markAt, portIn, readable}
+use Rattle.layout.specs.Numbers.{numbersOf, markAt, portIn, readable}
 use Rattle.layout.proofs.NumbersLaws.{readable-written}
 use Rattle.serve.specs.Ends.{repliedIn, Replies, statusAt}
 

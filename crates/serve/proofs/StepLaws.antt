@@ -42,7 +42,7 @@ use Rattle.model.proofs.Conditions.{by-bool, and-left, and-right}
 use Rattle.model.proofs.Refusing.{control-leaves}
 use Rattle.layout.specs.Numbers.{Written}
 use Rattle.control.specs.declared.Ran.{Ran}
-use Rattle.control.specs.Runs.{Runs}
+use Rattle.control.specs.Runs.{ControlPromise}
 use Rattle.layout.specs.Unit.{NumbersOnly, unitIn}
 use Rattle.layout.specs.Records.{filesIn}
 use Rattle.layout.specs.Kept.{areasIn}
@@ -97,7 +97,7 @@ module _ (c : Config) (i : Inner) (q : Request) where
 -- ---- what a function hands back
 
 module _ (i : Inner) {m : Stepped} {a : Areas} {p : Port} {ls entry exit : List ℕ} {r : Step} where
-  pub acts-control : {x : Controlled} (f : Ran) → Tame (x .says .outcome) (x .says .chars) → m ≡ alone i (controlled (i .core) (i .areas) x) → Runs entry exit x f
+  pub acts-control : {x : Controlled} (f : Ran) → Tame (x .says .outcome) (x .says .chars) → m ≡ alone i (controlled (i .core) (i .areas) x) → ControlPromise entry exit x f
       → r ≡ record { outcome = f .outcome; action = f .action; count = f .count } → Written (withHold (i .core) (f .hold)) (i .history .memory) p ls → a ≡ i .areas
       → StepPromise m a p ls entry exit r
   unfolding alone controlled
@@ -106,7 +106,7 @@ module _ (i : Inner) {m : Stepped} {a : Areas} {p : Port} {ls entry exit : List 
       (record { ended = w .ended; acted = w .acted; counted = w .counted; written = w .written; kept = rw (w .held) at k; areas = refl; tame = t })
 
 -- a request of 10h that is refused leaves the select, but for 11 and 12
-run-leaves : (k : Core) (a : Areas) (table : List ℕ) (h : Hold) (q : Request) {entry exit : List ℕ} {r : Ran} → Runs entry exit (controlOf table h q) r
+run-leaves : (k : Core) (a : Areas) (table : List ℕ) (h : Hold) (q : Request) {entry exit : List ℕ} {r : Ran} → ControlPromise entry exit (controlOf table h q) r
     → leaves (r .outcome) ≡ true → r .hold ≡ h
 unfolding declined
 run-leaves k a table h q w e =
@@ -118,7 +118,7 @@ run-leaves k a table h q w e =
     (rw (not-true (eqb n 11) (and-right (within 6 15 n) (not (eqb n 11)) most), not-true (eqb n 12) (and-right (within 6 15 n && not (eqb n 11)) (not (eqb n 12)) l)) refl)
 
 -- so what is kept of it is what it leaves
-pub run-held : (k : Core) (a : Areas) (table : List ℕ) (h : Hold) (q : Request) {entry exit : List ℕ} {r : Ran} → Runs entry exit (controlOf table h q) r
+pub run-held : (k : Core) (a : Areas) (table : List ℕ) (h : Hold) (q : Request) {entry exit : List ℕ} {r : Ran} → ControlPromise entry exit (controlOf table h q) r
     → cond (leaves (r .outcome)) h (r .hold) ≡ r .hold
 run-held k a table h q {r = r} w = by-bool (leaves (r .outcome)) (λ e. rw e (sym (run-leaves k a table h q w e))) (λ e. rw e)
 

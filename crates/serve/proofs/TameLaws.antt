@@ -14,7 +14,7 @@ use Rattle.model.specs.Frame.{Request, masterOf}
 use Rattle.model.specs.Outcome.{sendingOf}
 use Rattle.model.specs.Scan.{Scan, counts, withNoData}
 use Rattle.model.specs.Inputs.{Changed, hasAccumulator, resetCountOf, unreserved, inputsOf}
-use Rattle.model.specs.Blocks.{Written, Executed, reaches, blockOf, waitsFor, writeWhen, writeOf, notExecuted, executes, executeWhen, executeOf, returned, readOf}
+use Rattle.model.specs.Blocks.{WriteResult, Executed, reaches, blockOf, waitsFor, writeWhen, writeOf, notExecuted, executes, executeWhen, executeOf, returned, readOf}
 use Rattle.model.specs.Clock.{Timed, clockFits, timeIn, digitsFit, setTimeOf, timeChars, readTimeOf}
 use Rattle.model.specs.Step.{answered}
 use Rattle.model.specs.declared.Clock.{Clock}
@@ -22,8 +22,8 @@ use Rattle.model.specs.declared.Outcome.{Outcome}
 use Rattle.model.proofs.Conditions.{by-cond, false-true, and-left, and-right, every-upFrom}
 use Rattle.serve.specs.Promises.{Tame}
 use native.Mathlib.Nat.{mul-le-mul-right, div-mul-le-self}
-use Rattle.chars.specs.Gather.{gather, upFrom}
-use Rattle.model.specs.Config.{Config, has, within, every, noneIn, fileValid, validOf, hasFile, sizeOf}
+use Rattle.chars.specs.Gather.{gather, upFrom, every}
+use Rattle.model.specs.Config.{Config, has, within, noneIn, fileValid, validOf, hasFile, sizeOf}
 use Rattle.model.specs.State.{Files, History, heldIn}
 use Rattle.model.specs.Change.{Change, stays}
 use Rattle.model.specs.Tables.{sendable, sendOf, tableScan, tablesOf}
@@ -94,7 +94,7 @@ reset-tame table words q =
 
 -- ---- 20h/30h, 20h/31h and 20h/38h, which send no data
 
-BareWrite : Written → Type 0
+BareWrite : WriteResult → Type 0
 BareWrite x = x .says .chars ≡ []
 
 write-when-bare : (p : Pending) (m : Master) (bias o : ℕ) → BareWrite (writeWhen p m bias o)

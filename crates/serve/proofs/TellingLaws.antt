@@ -16,15 +16,15 @@ use Rattle.history.specs.Tell.{ServePromise}
 use Rattle.history.proofs.FitsLaws.{serves-told, serves-shifted, serves-files, serves-written}
 use Rattle.serve.specs.declared.step.Step.{Step}
 use Rattle.layout.specs.Unit.{Unit, unitLong, unitIn, configIn, numbersIn}
-use Rattle.layout.specs.Kept.{areasBy, areasIn, heldIn, innerIn, Steady}
+use Rattle.layout.specs.Kept.{areasBy, areasIn, filesHeld, innerIn, Steady}
 use Rattle.serve.proofs.TameLaws.{tame, history-says, told-short}
 use Rattle.serve.specs.Promises.{Ready, StepInPromise}
 
 pub acted-told : (u block area : List ℕ) (q : Request) {m : Stepped} (v : List ℕ) {entry exit area′ : List ℕ} (t : Filled) {r : Step}
     → length u ≡ unitLong → Ready u area → readable (numbersIn u) ≡ true → ServePromise u q area entry t v area′ exit
-    → m ≡ telling (innerIn u block area) (historyOf (configIn u .files) (configIn u .values) (record { memory = memoryIn (numbersIn u); files = heldIn u area }) q)
+    → m ≡ telling (innerIn u block area) (historyOf (configIn u .files) (configIn u .values) (record { memory = memoryIn (numbersIn u); files = filesHeld u area }) q)
     → r ≡ record { outcome = t .outcome; action = Rest; count = t .count }
-    → StepInPromise m (areasIn v block) (heldIn u area) (filesIn (configIn u .values) area′ (unitIn v .counts)) (portIn (numbersIn u)) (numbersIn v) area (unitIn u .counts) area′ (unitIn v .counts) entry exit r
+    → StepInPromise m (areasIn v block) (filesHeld u area) (filesIn (configIn u .values) area′ (unitIn v .counts)) (portIn (numbersIn u)) (numbersIn v) area (unitIn u .counts) area′ (unitIn v .counts) entry exit r
 unfolding telling scanned
 acted-told u block area q v t long y stands s z e =
     let w = serves-told u area (y .valid) (y .fits) (y .room) long q s in
@@ -41,7 +41,7 @@ acted-told u block area q v t long y stands s z e =
         written = w .sent .written;
         kept = k;
         areas = ap (λ (x : Unit). areasBy x block) (s .left);
-        tame = tame (history-says (configIn u .files) (configIn u .values) (record { memory = memoryIn (numbersIn u); files = heldIn u area }) q) (omega (arith, w .sent .counted));
+        tame = tame (history-says (configIn u .files) (configIn u .values) (record { memory = memoryIn (numbersIn u); files = filesHeld u area }) q) (omega (arith, w .sent .counted));
       };
       files = f;
       changed = record { moved = ch .0; counted = ch .1 };

@@ -26,7 +26,7 @@ use Rattle.layout.specs.Numbers.{coreIn, memoryIn, portIn, readable, Written}
 use Rattle.layout.specs.Unit.{unitIn, configIn, numbersIn, NumbersOnly}
 use Rattle.layout.specs.Records.{filesIn, roomOf}
 use Rattle.port.specs.Heard.{portHeardBy}
-use Rattle.layout.specs.Kept.{areasIn, heldIn, innerBy, innerIn, Owned, Steady}
+use Rattle.layout.specs.Kept.{areasIn, filesHeld, innerBy, innerIn, Owned, Steady}
 use Rattle.serve.specs.Changes.{Shifted}
 use Rattle.serve.specs.declared.step.Step.{Step}
 use Rattle.serve.specs.declared.Made.{Made as MadeOf}
@@ -45,7 +45,7 @@ pub record Unshifted (u v : List ℕ) : Type 0 where
 -- a configuration that is valid, and a history in range in the room that is asked for
 pub record Ready (u area : List ℕ) : Type 0 where
   pub valid : validOf (configIn u) ≡ true
-  pub fits : historyFits (configIn u) (record { memory = memoryIn (numbersIn u); files = heldIn u area }) ≡ true
+  pub fits : historyFits (configIn u) (record { memory = memoryIn (numbersIn u); files = filesHeld u area }) ≡ true
   pub room : roomOf (configIn u) ≤ length area
 
 -- a refused control request leaves the select, but for 11 and 12 (Select 4, 5)
@@ -93,7 +93,7 @@ abbrev pub ActPromise : Request → Owned → Owned → List ℕ → List ℕ �
 ActPromise q x y entry exit r =
     (Ready (x .unit) (x .area) → readable (numbersIn (x .unit)) ≡ true
     → StepInPromise (stepOf (configIn (x .unit)) (innerIn (x .unit) (x .block) (x .area)) q)
-    (areasIn (y .unit) (y .block)) (heldIn (x .unit) (x .area)) (filesIn (configIn (x .unit) .values) (y .area) (unitIn (y .unit) .counts))
+    (areasIn (y .unit) (y .block)) (filesHeld (x .unit) (x .area)) (filesIn (configIn (x .unit) .values) (y .area) (unitIn (y .unit) .counts))
     (portIn (numbersIn (x .unit))) (numbersIn (y .unit)) (x .area) (unitIn (x .unit) .counts) (y .area) (unitIn (y .unit) .counts) entry exit r)
     × Steady (x .unit) (y .unit)
 

@@ -13,7 +13,7 @@ use Rattle.chars.proofs.WordLaws.{length-word}
 use Rattle.chars.proofs.GatherLaws.{gather-each}
 use Rattle.model.specs.Frame.{Request}
 use Rattle.model.specs.Config.{within}
-use Rattle.model.specs.Tables.{numbersOf, wordIn, sendOf, tableScan, tablesOf}
+use Rattle.model.specs.Tables.{tableNumbers, wordIn, sendOf, tableScan, tablesOf}
 use Rattle.model.specs.declared.Table.{Table}
 use Rattle.tables.specs.Judged.{allSendable}
 use Rattle.points.proofs.Fits.{Fits, either, no-data-fits}
@@ -23,7 +23,7 @@ unfolding wordIn
 words-long words ns = gather-each (wordIn words) 2 (λ n. length-word (getD words n 0)) ns
 
 tables-short : (area : List ℕ) (one two own : Table)
-    → length (numbersOf area one ++ (numbersOf area two ++ numbersOf area own)) ≤ one .quantity + two .quantity + own .quantity
+    → length (tableNumbers area one ++ (tableNumbers area two ++ tableNumbers area own)) ≤ one .quantity + two .quantity + own .quantity
 tables-short area one two own =
     simp length-append (omega (
       arith,
@@ -40,7 +40,7 @@ send-fits table area words one two own =
     (λ f. omega (
       arith,
       ltb-false 255 (one .quantity + two .quantity + own .quantity) f,
-      words-long words (numbersOf area one ++ (numbersOf area two ++ numbersOf area own)),
+      words-long words (tableNumbers area one ++ (tableNumbers area two ++ tableNumbers area own)),
       tables-short area one two own,
     )))
     (λ e. zero-le)

@@ -13,16 +13,15 @@ use lib.ListN.{length, getD}
 use lib.Seq.{drop-cons}
 use Rattle.chars.specs.Put.{part}
 use Rattle.chars.specs.Word.{word}
-use Rattle.chars.specs.Gather.{gather}
+use Rattle.chars.specs.Gather.{gather, every}
 use Rattle.chars.proofs.PutLaws.{part-none}
 use Rattle.model.specs.Frame.{Request}
-use Rattle.model.specs.Config.{every}
 use Rattle.model.specs.Scan.{Fills, tells, refuses, withNoData}
-use Rattle.model.specs.Tables.{standsAt, tableAt, endOf, startOf, tableOf, numbersOf, wordIn, sendOf, tableScan, tableArea, tablesOf}
+use Rattle.model.specs.Tables.{standsAt, tableAt, endOf, startOf, tableOf, tableNumbers, wordIn, sendOf, tableScan, tableArea, tablesOf}
 use Rattle.model.specs.declared.Outcome.the-variants.{Unknown, NotValid, TooLong}
 use Rattle.model.specs.declared.Table.{Table}
 use Rattle.model.specs.declared.Filled.{Filled}
-use Rattle.layout.specs.Unit.{unitSizes, unitLong, fixedRegion, unitOf, unitIn}
+use Rattle.layout.specs.Unit.{unitSizes, unitLong, fixedRegion, unitFrom, unitIn}
 use Rattle.layout.proofs.UnitLaws.{region-size}
 use Rattle.tables.specs.Judged.{allSendable}
 use Rattle.model.proofs.Conditions.{and-left}
@@ -169,7 +168,7 @@ module _ (table area words : List ℕ) (one two own : Table) where
 
   pub send-done : allSendable table area one two own ≡ true
       → one .quantity + two .quantity + own .quantity ≤ 255
-      → sendOf table area words one two own ≡ tells (gather (wordIn words) (numbersOf area one ++ (numbersOf area two ++ numbersOf area own)))
+      → sendOf table area words one two own ≡ tells (gather (wordIn words) (tableNumbers area one ++ (tableNumbers area two ++ tableNumbers area own)))
   unfolding sendOf
   send-done e h = simp (e, le-ltb _ _ h)
 
@@ -181,7 +180,7 @@ scan-fills table area words k e f g a = rw (e, f, g) at a
 
 -- the fixed area as it was lent has the table area in it
 pub fixed-long : (u fixed : List ℕ) → length u ≡ unitLong → fixed ≡ unitIn u .fixed → length fixed ≡ 528
-unfolding unitOf unitSizes
+unfolding unitFrom unitSizes
 fixed-long u fixed l e = ap length e ∙ region-size u l fixedRegion (lit< tt)
 
 module _ (table fixed words : List ℕ) (q : Request) where

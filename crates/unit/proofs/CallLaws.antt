@@ -9,7 +9,7 @@ use Rattle.model.specs.Config.{Config}
 use Rattle.model.proofs.Conditions.{by-cond}
 use Rattle.model.specs.State.{State}
 use Rattle.model.specs.Fits.{fits}
-use Rattle.model.specs.Event.{Local as LocalEvent, setWord, setValue, pulses, store, Event, stretch, elapsed, local}
+use Rattle.model.specs.Event.{Local, setWord, setValue, pulses, store, Event, stretch, elapsed, local}
 use Rattle.model.specs.Step.{quiet, elapsedMade, localMade, wordMade, valueMade, storeMade, localOf, makeOf}
 use Rattle.model.specs.Port.{sentChars}
 use Rattle.model.specs.Run.{Result, Entry, short, turnedAway, shows, decided, resultOf, entryOf, afterFrom, traceFrom}
@@ -18,7 +18,7 @@ use Rattle.model.specs.declared.Action.the-variants.{Rest}
 use Rattle.layout.specs.Kept.{Kept, stateOf}
 use Rattle.unit.specs.Events.{Heeds}
 use Rattle.serve.specs.Stretch.{coming, Turns}
-use Rattle.unit.specs.Calls.{Local, results, shownBy, answeredBy, Calls, none, heard, heeded}
+use Rattle.unit.specs.Calls.{NoStretch, results, madeShown, answeredBy, Calls, none, heard, heeded}
 use Rattle.serve.specs.declared.Made.{Made}
 
 -- the state after the calls is the definition's
@@ -32,7 +32,7 @@ calls-after c (heeded {es = es} n h cs) = calls-after c cs ∙ ap (λ (s : State
 
 -- the reply is the front of the buffer
 shown-turn : (c : Config) {k l : Kept} {s entry exit : List ℕ} {r : Made} → Turns c s k l entry exit r
-    → shownBy r exit ≡ resultOf c (stateOf c k) (coming entry s)
+    → madeShown r exit ≡ resultOf c (stateOf c k) (coming entry s)
 shown-turn c {k} {l} {s} {entry} {exit} {r} t =
     let x = resultOf c (stateOf c k) (coming entry s) in
     let g : length (x .reply) ≤ length entry = omega (arith, t .counted, t .inside) in
@@ -44,26 +44,26 @@ pub record Still (x : Result) : Type 0 where
   pub action : x .action ≡ Rest
   pub reply : x .reply ≡ []
 
-still-local : (c : Config) (s : State) (e : LocalEvent) → Still (shows (s .port) (localOf c (s .inner) e))
+still-local : (c : Config) (s : State) (e : Local) → Still (shows (s .port) (localOf c (s .inner) e))
 unfolding shows localOf wordMade valueMade localMade storeMade quiet sentChars
 still-local c s (setWord i w) = record { action = refl; reply = refl }
 still-local c s (setValue i v) = record { action = refl; reply = refl }
 still-local c s (pulses i p) = record { action = refl; reply = refl }
 still-local c s (store f t vs) = record { action = refl; reply = refl }
 
-still-shown : (c : Config) (s : State) (e : Event) → Local e → Still (shows (s .port) (makeOf c (s .inner) e))
-unfolding Local shows makeOf elapsedMade quiet sentChars
+still-shown : (c : Config) (s : State) (e : Event) → NoStretch e → Still (shows (s .port) (makeOf c (s .inner) e))
+unfolding NoStretch shows makeOf elapsedMade quiet sentChars
 still-shown c s (stretch t) n = absurd (n t refl)
 still-shown c s (elapsed ms) n = record { action = refl; reply = refl }
 still-shown c s (local e) n = still-local c s e
 
-still-result : (c : Config) (s : State) (e : Event) → Local e → Still (resultOf c s e)
+still-result : (c : Config) (s : State) (e : Event) → NoStretch e → Still (resultOf c s e)
 unfolding resultOf decided turnedAway
 still-result c s e n =
     by-cond Still (short e) (λ _. record { action = refl; reply = refl })
     (λ _. by-cond Still (fits c s) (λ _. still-shown c s e n) (λ _. record { action = refl; reply = refl }))
 
-shown-heed : (c : Config) {k l : Kept} {e : Event} {a : Answer} → Local e → Heeds c e k l a → answeredBy a ≡ resultOf c (stateOf c k) e
+shown-heed : (c : Config) {k l : Kept} {e : Event} {a : Answer} → NoStretch e → Heeds c e k l a → answeredBy a ≡ resultOf c (stateOf c k) e
 shown-heed c {k} {l} {e} n h =
     let t = still-result c (stateOf c k) e n in
     λ i. record { answer = h .answered i; action = sym (t .action) i; reply = sym (t .reply) i }

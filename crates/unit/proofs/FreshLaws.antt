@@ -11,6 +11,7 @@ use Rattle.chars.specs.Put.{put}
 use Rattle.chars.proofs.PutLaws.{length-put, put-none, put-more, take-put-front}
 use Rattle.model.specs.Config.{Config}
 use Rattle.model.specs.State.{freshCore, freshAreas, freshHistory, freshPort, freshOf}
+use Rattle.model.specs.Port.{markNumber}
 use Rattle.model.specs.declared.Memory.the-variants.{Nothing}
 use Rattle.model.proofs.Conditions.{and-both}
 use Rattle.layout.specs.Records.{held, recordsIn, each, filesIn, roomOf}
@@ -19,7 +20,6 @@ use Rattle.layout.specs.Numbers.{
   holdNumbers,
   writeNumbers,
   memoryNumbers,
-  markNumber,
   numbersOf,
   holdIn,
   writeIn,

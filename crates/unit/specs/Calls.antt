@@ -15,8 +15,8 @@ use Rattle.serve.specs.Stretch.{coming, Turns}
 use Rattle.serve.specs.declared.Made.{Made}
 
 -- no stretch: time or a local event
-unfoldable pub Local : Event → Type 0
-Local e = (s : Stretch) → e ≡ stretch s → ⊥
+unfoldable pub NoStretch : Event → Type 0
+NoStretch e = (s : Stretch) → e ≡ stretch s → ⊥
 
 -- what the entries of a trace show
 unfoldable pub results : List Entry → List Result
@@ -24,8 +24,8 @@ results [] = []
 results (x ∷ xs) = x .result ∷ results xs
 
 -- what a stretch showed: the reply is the front of the buffer that was to be sent
-abbrev pub shownBy : Made → List ℕ → Result
-shownBy r exit = record { answer = Ended (r .outcome); action = r .action; reply = take (r .sent) exit }
+abbrev pub madeShown : Made → List ℕ → Result
+madeShown r exit = record { answer = Ended (r .outcome); action = r .action; reply = take (r .sent) exit }
 
 -- what any other event showed: its answer alone
 abbrev pub answeredBy : Answer → Result
@@ -35,6 +35,6 @@ answeredBy a = record { answer = a; action = Rest; reply = [] }
 pub data Calls (c : Config) : Kept → List Event → List Result → Kept → Type 0 where
   none : {k : Kept} → Calls c k [] [] k
   heard : {k l m : Kept} {s entry exit : List ℕ} {r : Made} {es : List Event} {xs : List Result}
-      → Turns c s k l entry exit r → Calls c l es xs m → Calls c k (coming entry s ∷ es) (shownBy r exit ∷ xs) m
+      → Turns c s k l entry exit r → Calls c l es xs m → Calls c k (coming entry s ∷ es) (madeShown r exit ∷ xs) m
   heeded : {k l m : Kept} {e : Event} {a : Answer} {es : List Event} {xs : List Result}
-      → Local e → Heeds c e k l a → Calls c l es xs m → Calls c k (e ∷ es) (answeredBy a ∷ xs) m
+      → NoStretch e → Heeds c e k l a → Calls c l es xs m → Calls c k (e ∷ es) (answeredBy a ∷ xs) m

@@ -1,7 +1,7 @@
 -- `blocks::block_of` meets its contract: each test that was passed or failed is one of the definition's.
 use mathlib.Core.Path.{_∙_}
 use borrow.Author.Tests.{eq-eqb, ne-eqb}
-use Rattle.model.specs.Blocks.{baseOf, blockOf}
+use Rattle.model.specs.Blocks.{ordinalStart, blockOf}
 use borrow.Author.Needs.{needs}
 use Rattle.blocks.proofs.block_of.Statement.{statement}
 use Rattle.blocks.proofs.block_of.Tie as tie
@@ -17,7 +17,7 @@ piece-requires : tie.Need-piece-requires
 piece-requires c κs = search needs
 
 returns-2 : tie.Need-returns-2
-unfolding blockOf baseOf
+unfolding blockOf ordinalStart
 returns-2 c =
     let is-0 = eq-eqb _ _ (c .before .if2 .taken) in
     let not-6 = ne-eqb _ _ (c .before .before .before .if1 .left) in
@@ -27,7 +27,7 @@ piece-requires-2 : tie.Need-piece-requires-2
 piece-requires-2 c κs = search needs
 
 returns-3 : tie.Need-returns-3
-unfolding blockOf baseOf
+unfolding blockOf ordinalStart
 returns-3 c =
     let is-3 = eq-eqb _ _ (c .before .if3 .taken) in
     let not-0 = ne-eqb _ _ (c .before .before .if2 .left) in
@@ -38,7 +38,7 @@ piece-requires-3 : tie.Need-piece-requires-3
 piece-requires-3 c κs = search needs
 
 returns-4 : tie.Need-returns-4
-unfolding blockOf baseOf
+unfolding blockOf ordinalStart
 returns-4 c =
     let is-11 = eq-eqb _ _ (c .before .if4 .taken) in
     let not-3 = ne-eqb _ _ (c .before .before .if3 .left) in

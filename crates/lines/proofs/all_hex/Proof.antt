@@ -1,10 +1,11 @@
 -- `lines::all_hex` meets its contract. The invariant of its loop: the digits from i on are judged as all are.
+use Rattle.chars.specs.Gather.{every}
 use borrow.Author.Needs.{needs}
 use mathlib.Core.Path.{_≡_, refl, sym, _∙_}
 use Prim.Native.Nat.{_≤_, _-_}
 use native.Mathlib.Omega.{arith}
 use lib.ListN.{length, drop}
-use Rattle.lines.specs.Line.{every, isHex}
+use Rattle.lines.specs.Line.{isHex}
 use Rattle.lines.proofs.Tests.{every-end}
 use Rattle.lines.proofs.ReadLaws.{all-more, all-stop}
 use Rattle.lines.proofs.all_hex.Statement.{statement}

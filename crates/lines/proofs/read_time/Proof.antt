@@ -4,13 +4,13 @@ use mathlib.Core.Path.{_≡_, sym, _∙_}
 use Prim.Native.Nat.{_≤_, _-_}
 use native.Mathlib.Omega.{arith}
 use lib.ListN.{length, drop}
-use Rattle.lines.specs.Line.{timeFrom, timeOf}
+use Rattle.lines.specs.Line.{timeFrom, timeSaid}
 use Rattle.lines.proofs.ReadLaws.{answer-other, answer-time, time-none, time-some, time-low, time-high, time-more, time-over, time-end}
 use Rattle.lines.proofs.read_time.Statement.{statement}
 use Rattle.lines.proofs.read_time.Tie as tie
 
 abbrev Inv-loop : tie.InvT-loop
-Inv-loop ds v₀ i₀ v i = (timeFrom v (drop i ds) ≡ timeOf ds) × (i ≤ length ds) × (v ≤ 4294967295)
+Inv-loop ds v₀ i₀ v i = (timeFrom v (drop i ds) ≡ timeSaid ds) × (i ≤ length ds) × (v ≤ 4294967295)
 
 abbrev μ-loop : tie.MeasureT-loop
 μ-loop ds v₀ i₀ v i = length ds - i

@@ -2,7 +2,7 @@
 use mathlib.Core.List.{List}
 use Prim.Native.Nat.{ℕ}
 use lib.ListN.{set}
-use Rattle.layout.specs.Numbers.{markNumber}
+use Rattle.model.specs.Port.{markNumber}
 use Rattle.layout.proofs.UnitLaws.{renumbered-then}
 use borrow.Author.Needs.{needs}
 use Rattle.layout.proofs.port.keep_port.Statement.{statement}

@@ -4,7 +4,7 @@ use mathlib.Core.Path.{refl}
 use Rattle.model.specs.Frame.{asked}
 use Rattle.layout.specs.Numbers.{coreIn}
 use Rattle.layout.proofs.NumbersLaws.{readable-written}
-use Rattle.clock.specs.Times.{readOf}
+use Rattle.clock.specs.Times.{timeReadOf}
 use Rattle.layout.specs.Kept.{innerBy}
 use Rattle.serve.proofs.CommandLaws.{return-read, return-time, return-unknown, acts-scan, acts-refused}
 use Rattle.serve.proofs.TameLaws.{read-tame, time-tame}
@@ -45,7 +45,7 @@ same-length-2 : tie.Need-same-length-2
 same-length-2 c = search needs
 
 returns-2 : tie.Need-returns-2
-unfolding readOf coreIn
+unfolding timeReadOf coreIn
 returns-2 c =
     let s = c .before .before .before .before .before .before .before .before .before .before in
     λ fs stands.
