@@ -73,13 +73,6 @@ time-below k fit = let n = bounds k fit in omega arith
 
 -- ---- times that pass
 
-pub after-none : (k : Clock) → clockFits k ≡ true → clockAfter k 0 ≡ k
-unfolding clockAfter
-after-none k fit =
-    let b = time-below k fit in
-    let e : (timeOf k + 0) % (366 * 86400000) ≡ timeOf k = omega arith in
-    rw e (clock-time k fit)
-
 -- two times in turn are their sum
 pub after-after : (k : Clock) (a b : ℕ) → clockAfter (clockAfter k a) b ≡ clockAfter k (a + b)
 unfolding clockAfter

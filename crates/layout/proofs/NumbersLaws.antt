@@ -142,17 +142,6 @@ mark-back Fine = refl
 mark-back Silent = refl
 mark-back Damaged = refl
 
--- what numbers mean, they can keep
-reply-back : (n : MemoryNumbers) → replyIn (memoryNumbers (replyIn n)) ≡ replyIn n
-unfolding replyIn memoryNumbers
-reply-back n =
-    let c : (x : ℕ) → x % 256 % 256 ≡ x % 256 = λ x. omega arith in
-    by-eqb (n .memory) 0 (λ e. rw e) (λ e. rw (ne-eqb (n .memory) 0 e) (simp (c, bit-back)))
-
-pub memory-back : (ks : List ℕ) → replyIn (memoryNumbers (memoryIn ks)) ≡ memoryIn ks
-unfolding memoryIn
-memory-back ks = reply-back _
-
 -- the core
 pub core-back : {k : Core} (ks : List ℕ) → length ks ≡ 26
     → (k .clock .hour < 256) × (k .clock .minute < 256) × (k .clock .second < 256)

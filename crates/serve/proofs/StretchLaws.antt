@@ -15,7 +15,9 @@ use Rattle.model.specs.State.{Areas, Files, Inner}
 use Rattle.model.specs.Fits.{fits}
 use Rattle.model.specs.Step.{Made, quiet, served, broadcastOf, broadcastMade, framed, judged, makeOf}
 use Rattle.model.specs.Port.{portHeard, portAfter}
-use Rattle.model.specs.Run.{short, Result, turnedAway, shows, moves, decided, resultOf, changeOf}
+use Rattle.model.specs.Change.{stays}
+use Rattle.model.specs.Run.{short, Result, turnedAway, shows, moves, decided, resultOf, nextOf, changeOf}
+use Rattle.model.specs.declared.Outcome.{Outcome}
 use Rattle.model.specs.declared.Outcome.the-variants.{NotWhole, CheckWrong, OtherUnit, NotConfigured, BufferShort}
 use Rattle.model.specs.declared.Action.the-variants.{Rest}
 use Rattle.model.specs.declared.Frame.{Frame}
@@ -90,12 +92,11 @@ module _ (c : Config) (i : Inner) (s : List ℕ) (mark : Mark) (p : Port) {area 
 -- ---- the entry
 
 module _ (c : Config) (s : List ℕ) (k : Kept) (entry : List ℕ) {r : MadeOf} where
-  pub turns-short : length entry < longestReply
-      → r ≡ record { outcome = BufferShort; action = Rest; sent = 0 } → Turns c s k k entry entry r
-  unfolding short turnedAway changeOf decided
-  turns-short l e =
-      let t : short (coming entry s) ≡ true = lt-ltb (length entry) 520 l in
-      let w = short-away c (stateOf c k) (coming entry s) t in
+  -- turned away by o, and nothing is changed
+  turned : (o : Outcome) → (resultOf c (stateOf c k) (coming entry s) ≡ turnedAway o) × (nextOf c (stateOf c k) (coming entry s) ≡ stateOf c k)
+      → changeOf c (stateOf c k) (coming entry s) ≡ stays → r ≡ record { outcome = o; action = Rest; sent = 0 } → Turns c s k k entry entry r
+  unfolding turnedAway
+  turned o w z e =
       rw e
       (record {
         answered = sym (ap (λ (x : Result). x .answer) (w .0));
@@ -105,26 +106,22 @@ module _ (c : Config) (s : List ℕ) (k : Kept) (entry : List ℕ) {r : MadeOf} 
         small = omega arith;
         written = sym (put-none entry 0) ∙ sym (ap (λ (x : Result). put entry 0 (x .reply)) (w .0));
         next = sym (w .1);
-        changed = rw t (still (k .area) (k .counts));
+        changed = rw z (still (k .area) (k .counts));
       })
+
+  pub turns-short : length entry < longestReply
+      → r ≡ record { outcome = BufferShort; action = Rest; sent = 0 } → Turns c s k k entry entry r
+  unfolding short changeOf decided
+  turns-short l e =
+      let t : short (coming entry s) ≡ true = lt-ltb (length entry) longestReply l in
+      turned BufferShort (short-away c (stateOf c k) (coming entry s) t) (rw t) e
 
   pub turns-unfit : longestReply ≤ length entry → fits c (stateOf c k) ≡ false
       → r ≡ record { outcome = NotConfigured; action = Rest; sent = 0 } → Turns c s k k entry entry r
-  unfolding short turnedAway changeOf decided
+  unfolding short changeOf decided
   turns-unfit l b e =
-      let t : short (coming entry s) ≡ false = le-ltb (length entry) 520 l in
-      let w = unfit-away c (stateOf c k) (coming entry s) t b in
-      rw e
-      (record {
-        answered = sym (ap (λ (x : Result). x .answer) (w .0));
-        acted = sym (ap (λ (x : Result). x .action) (w .0));
-        counted = sym (ap (λ (x : Result). length (x .reply)) (w .0));
-        inside = omega arith;
-        small = omega arith;
-        written = sym (put-none entry 0) ∙ sym (ap (λ (x : Result). put entry 0 (x .reply)) (w .0));
-        next = sym (w .1);
-        changed = rw (t, b) (still (k .area) (k .counts));
-      })
+      let t : short (coming entry s) ≡ false = le-ltb (length entry) longestReply l in
+      turned NotConfigured (unfit-away c (stateOf c k) (coming entry s) t b) (rw (t, b)) e
 
 -- ---- what is owned
 
@@ -188,7 +185,7 @@ pub stretch-made : (s : List ℕ) (x : Owned) (entry : List ℕ) (y : Owned) {ex
 unfolding short makeOf shows moves portAfter changeOf decided
 stretch-made s x entry y {exit} m g l b v steady =
     let c = configIn (x .unit) in
-    let t : short (coming entry s) ≡ false = le-ltb (length entry) 520 l in
+    let t : short (coming entry s) ≡ false = le-ltb (length entry) longestReply l in
     let w = works c (stateOf c (keptIn x)) (coming entry s) t b in
     let z = v .makes in
     let k = z .kept in
