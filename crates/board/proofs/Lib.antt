@@ -1,4 +1,4 @@
--- The laws that the proofs of this crate cite, that its contracts leave no choice, that a run of calls is the definition's run, and demand 3 of it.
+-- The laws that the proofs of this crate cite, that its contracts say everything, that a run of calls is the definition's run, and demand 3 of it.
 pub mod ToldLaws
 pub mod ValidLaws
 pub mod Unique

@@ -1,4 +1,4 @@
--- Two results that satisfy a call's contract are equal, and so is all that the caller owns: each promise leaves no choice. A memory
+-- Two results that satisfy a call's contract are equal, and so is all that the caller owns: each promise says everything. A memory
 -- that was lent is characters, as long as a unit. Assumes nothing.
 use mathlib.Core.Path.{_≡_, sym, ap, _∙_}
 use Prim.Native.Nat.{ℕ}

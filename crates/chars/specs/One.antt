@@ -1,4 +1,4 @@
--- A promise that leaves no choice: of two ends of a call that both meet it, what is seen is the same.
+-- A promise that says everything: of two ends of a call that both meet it, what is seen is the same.
 use mathlib.Core.Path.{_≡_}
 
 -- P is what a contract says of a call (its lifetimes, its arguments, its result, and what was lent, as it is left); seen is its result or a

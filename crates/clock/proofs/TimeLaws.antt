@@ -85,14 +85,14 @@ at-fits : (t : ℕ) → t < 366 * 86400000 → clockFits (clockAt t) ≡ true
 unfolding clockAt
 at-fits t h = sym (fits-last (clockAt t) (omega arith) (omega arith) (omega arith) (omega arith) (omega arith)) ∙ le-leb (t % 1000) 999 (omega arith)
 
--- whatever the clock was, after any time it is one that can be
+-- whatever the clock was, after any time it is in range
 pub after-fits : (k : Clock) (ms : ℕ) → clockFits (clockAfter k ms) ≡ true
 unfolding clockAfter
 after-fits k ms = at-fits ((timeOf k + ms) % (366 * 86400000)) (omega arith)
 
 -- ---- what was set is read
 
--- a clock that can be stays one
+-- a clock in range stays so
 fits-either : (b : Bool) (x y : Timed) → (b ≡ true → clockFits (x .clock) ≡ true) → clockFits (y .clock) ≡ true → clockFits (cond b x y .clock) ≡ true
 fits-either true x y f g = f refl
 fits-either false x y f g = g

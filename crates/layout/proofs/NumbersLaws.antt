@@ -1,4 +1,4 @@
--- Numbers written are read as what was written, and numbers that stand are those written for what they mean. Assumes nothing.
+-- Numbers written are read as what was written, and readable numbers are those written for what they mean. Assumes nothing.
 use mathlib.Core.Path.{_≡_, refl, sym, _∙_}
 use Prim.Native.Nat.{ℕ, zero, suc, _%_, _<_}
 use native.Mathlib.Omega.{arith}

@@ -1,4 +1,4 @@
--- One part of numbers that stood written anew: they stand, and mean the same but for that part. Assumes nothing.
+-- One part of readable numbers written anew: they are readable, and mean the same but for that part. Assumes nothing.
 use mathlib.Core.Path.{_≡_, refl, _∙_}
 use Prim.Native.Nat.{ℕ, _<_}
 use native.Mathlib.Nat.{mod-eq-of-lt}

@@ -1,4 +1,4 @@
--- Two ends of a call that meet its contract are one: what each public function promises leaves no choice. What a memory means says every
+-- Two ends of a call that meet its contract are equal: what each public function promises says everything. What a memory means says every
 -- character of it (UnitOne). Assumes nothing.
 use mathlib.Core.Path.{_≡_, sym, _∙_}
 use Rattle.chars.specs.One.{One}

@@ -22,7 +22,7 @@ unfolding digits bcd
 bcd-digits n h =
     and-both (le-leb ((n / 10 * 16 + n % 10) / 16) 9 (omega arith)) (le-leb ((n / 10 * 16 + n % 10) % 16) 9 (omega arith))
 
--- the fields of a clock that can be
+-- the fields of a clock in range
 record Ranges (k : Clock) : Type 0 where
   day : k .day ≤ 366
   hour : k .hour ≤ 23

@@ -21,7 +21,7 @@ fromBcd b = b / 16 * 10 + b % 16
 unfoldable pub digits : ℕ → Bool
 digits b = leb (b / 16) 9 && leb (b % 16) 9
 
--- a clock that can be: day 1 to 366, and so on (Write 14)
+-- a clock in range: day 1 to 366, and so on (Write 14)
 unfoldable pub clockFits : Clock → Bool
 clockFits k =
     within 1 366 (k .day) && (leb (k .hour) 23 && (leb (k .minute) 59 && (leb (k .second) 59 && leb (k .ms) 999)))

@@ -1,4 +1,4 @@
--- Two results that satisfy the contract of `stretch` are equal, and so is all that is kept and lent: the promise leaves no choice.
+-- Two results that satisfy the contract of `stretch` are equal, and so is all that is kept and lent: the promise says everything.
 -- Assumes nothing.
 use mathlib.Core.Path.{_≡_, sym, ap, _∙_}
 use mathlib.Core.List.{List}

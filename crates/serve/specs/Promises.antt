@@ -33,7 +33,7 @@ use Rattle.serve.specs.declared.Made.{Made as MadeOf}
 
 -- ---- a unit's memory
 
--- numbers that stood mean this core, memory and port afterwards, and nothing else is written
+-- readable numbers mean this core, memory and port afterwards, and nothing else is written
 abbrev pub NumbersPromise : List ℕ → List ℕ → Core → Memory → Port → Type 0
 NumbersPromise u v core memory port = (readable (numbersIn u) ≡ true → Written core memory port (numbersIn v)) × NumbersOnly u v
 

@@ -50,7 +50,7 @@ pub fn status_in<'a>(unit: &'a [u8; UNIT]) -> u8
         + (status_bit(error_in(unit), 0x08) + status_bit(broadcast_in(unit), 0x04))
 }
 
-// The mark's number is at most 2 where the numbers stand.
+// The mark's number is at most 2 where the numbers are readable.
 pub fn port_status_in<'a>(unit: &'a [u8; UNIT]) -> u8
     ensures { λ r. ⌜ r ≡ statusAt (numbersIn (now (unit .entry))) ⌝ }
 {

@@ -1,4 +1,4 @@
--- Two results that satisfy an entry's contract are equal, and so is all that is kept and lent: each promise leaves no choice.
+-- Two results that satisfy an entry's contract are equal, and so is all that is kept and lent: each promise says everything.
 -- Assumes nothing.
 use mathlib.Core.Path.{_≡_, sym, ap, _∙_}
 use mathlib.Core.List.{List}

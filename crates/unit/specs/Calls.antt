@@ -31,7 +31,7 @@ madeShown r exit = record { answer = Ended (r .outcome); action = r .action; rep
 abbrev pub answeredBy : Answer → Result
 answeredBy a = record { answer = a; action = Rest; reply = [] }
 
--- calls in turn, each as its entry has it where the numbers stand, on what the one before left
+-- calls in turn, each as its entry has it where the numbers are readable, on what the one before left
 pub data Calls (c : Config) : Kept → List Event → List Result → Kept → Type 0 where
   none : {k : Kept} → Calls c k [] [] k
   heard : {k l m : Kept} {s entry exit : List ℕ} {r : Made} {es : List Event} {xs : List Result}
