@@ -20,8 +20,8 @@ const fn table() -> [u16; 256] {
     words
 }
 
-fn check(s: &[u8]) -> u16 {
-    let mut crc: u16 = 0;
+fn check(start: u16, s: &[u8]) -> u16 {
+    let mut crc = start;
     for &c in s {
         crc = (crc >> 8) ^ TABLE[((crc ^ c as u16) & 0xff) as usize];
     }
@@ -30,8 +30,8 @@ fn check(s: &[u8]) -> u16 {
 
 // SAFETY: the caller hands over n characters at s.
 #[no_mangle]
-pub unsafe extern "C" fn rust_check_word(s: *const u8, n: usize) -> u16 {
-    check(core::slice::from_raw_parts(s, n))
+pub unsafe extern "C" fn rust_check_word(start: u16, s: *const u8, n: usize) -> u16 {
+    check(start, core::slice::from_raw_parts(s, n))
 }
 
 #[panic_handler]

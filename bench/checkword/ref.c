@@ -21,9 +21,9 @@ static const uint16_t table[256] = {
     0x4400, 0x84C1, 0x8581, 0x4540, 0x8701, 0x47C0, 0x4680, 0x8641, 0x8201, 0x42C0, 0x4380, 0x8341, 0x4100, 0x81C1, 0x8081, 0x4040,
 };
 
-uint16_t c_check_word(const uint8_t *s, size_t n)
+uint16_t c_check_word(uint16_t start, const uint8_t *s, size_t n)
 {
-    uint16_t crc = 0;
+    uint16_t crc = start;
     for (size_t i = 0; i < n; i++)
         crc = (crc >> 8) ^ table[(crc ^ s[i]) & 0xff];
     return crc;

@@ -50,7 +50,13 @@ abbrev total : (ℕ → ℕ) → ℕ → ℕ
 total f zero = 0
 total f (suc k) = total f k + f (2 ^ k)
 
-null : (f : ℕ → ℕ) → ((a b : ℕ) → f (bitXor a b) ≡ bitXor (f a) (f b)) → f 0 ≡ 0 → (k n : ℕ) → n < 2 ^ k → total f k ≡ 0 → f n ≡ 0
+abbrev Linear : (ℕ → ℕ) → Type 0
+Linear f = (a b : ℕ) → f (bitXor a b) ≡ bitXor (f a) (f b)
+
+both : (f g : ℕ → ℕ) → Linear f → Linear g → Linear (λ u. bitXor (f u) (g u))
+both f g p q a b = ap₂ bitXor (p a b) (q a b) ∙ xor-swap (f a) (f b) (g a) (g b)
+
+null : (f : ℕ → ℕ) → Linear f → f 0 ≡ 0 → (k n : ℕ) → n < 2 ^ k → total f k ≡ 0 → f n ≡ 0
 null f lin z zero n h e = let n0 : n ≡ 0 = omega arith in ap f n0 ∙ z
 null f lin z (suc k) n h e =
     let top : n / 2 ^ k < 2 = shr-lt 1 k (subst (λ x. n < 2 ^ x) (sym (one-add k)) h) in
@@ -61,26 +67,31 @@ null f lin z (suc k) n h e =
     (bit (λ x. f (x * 2 ^ k) ≡ 0) (ap f (zero-mul (2 ^ k)) ∙ z) (ap f (one-mul (2 ^ k)) ∙ one) (n / 2 ^ k) top)
     (null f lin z k (n % 2 ^ k) (mod-lt n (pow-pos k)) (omega arith))
 
+-- bits divided a, b and n times, together
+abbrev three : ℕ → ℕ → ℕ → ℕ → ℕ
+three a b n u = bitXor (bitXor (bitSteps a u) (bitSteps b u)) (bitSteps n u)
+
+three-xor : (a b n : ℕ) → Linear (three a b n)
+three-xor a b n =
+    both (λ u. bitXor (bitSteps a u) (bitSteps b u)) (bitSteps n) (both (bitSteps a) (bitSteps b) (bitSteps-xor a) (bitSteps-xor b)) (bitSteps-xor n)
+
+three-0 : (a b n : ℕ) → three a b n 0 ≡ 0
+three-0 a b n = ap₂ bitXor (ap₂ bitXor (bitSteps-0 a) (bitSteps-0 b)) (bitSteps-0 n)
+
 -- ---- so many places up are the sum of two others, by the second factor
 
 abbrev lost : ℕ → ℕ → ℕ → ℕ → ℕ
-lost n a b u = factor (bitXor (bitXor (bitSteps a u) (bitSteps b u)) (bitSteps n u))
+lost n a b u = factor (three a b n u)
 
-lost-xor : (n a b x y : ℕ) → lost n a b (bitXor x y) ≡ bitXor (lost n a b x) (lost n a b y)
-lost-xor n a b x y =
-    ap factor
-    (ap₂ bitXor
-    (ap₂ bitXor (bitSteps-xor a x y) (bitSteps-xor b x y) ∙ xor-swap (bitSteps a x) (bitSteps a y) (bitSteps b x) (bitSteps b y))
-    (bitSteps-xor n x y)
-    ∙ xor-swap (bitXor (bitSteps a x) (bitSteps b x)) (bitXor (bitSteps a y) (bitSteps b y)) (bitSteps n x) (bitSteps n y))
-    ∙ factor-xor (bitXor (bitXor (bitSteps a x) (bitSteps b x)) (bitSteps n x)) (bitXor (bitXor (bitSteps a y) (bitSteps b y)) (bitSteps n y))
+lost-xor : (n a b : ℕ) → Linear (lost n a b)
+lost-xor n a b x y = ap factor (three-xor a b n x y) ∙ factor-xor (three a b n x) (three a b n y)
 
 factor-0 : factor 0 ≡ 0
 unfolding factor bitStep
 factor-0 = refl
 
 lost-0 : (n a b : ℕ) → lost n a b 0 ≡ 0
-lost-0 n a b = ap factor (ap₂ bitXor (ap₂ bitXor (bitSteps-0 a) (bitSteps-0 b)) (bitSteps-0 n)) ∙ factor-0
+lost-0 n a b = ap factor (three-0 a b n) ∙ factor-0
 
 -- n places up are the sum of a and b
 abbrev Sum : ℕ → ℕ → ℕ → Type 0
@@ -103,3 +114,14 @@ sum-30 = sum-is 30 0 2 (computed .0)
 
 pub sum-64 : Sum 64 4 8
 sum-64 = sum-is 64 4 8 (computed .1)
+
+-- ---- a word comes back from three others, by the whole polynomial: its fourth power is x^64 + x^60 + x^8 + 1
+
+back-computed : total (λ u. bitXor (three 8 60 64 u) u) 16 ≡ 0
+unfolding bitSteps bitStep
+back-computed = refl
+
+pub back : (u : ℕ) → u < 2 ^ 16 → three 8 60 64 u ≡ u
+back u h =
+    xor-zero
+    (null (λ v. bitXor (three 8 60 64 v) v) (both (three 8 60 64) (λ v. v) (three-xor 8 60 64) (λ a b. refl)) (ap (λ x. bitXor x 0) (three-0 8 60 64)) 16 u h back-computed)

@@ -50,10 +50,10 @@ checkOf-stretch s hs h e =
 
 -- ---- a burst in a frame, its check characters included
 
--- a list is sent with its check characters behind it; what a burst makes of the frame does not leave 0
-pub sent : (s t : List ℕ) (k : ℕ) → Characters s → Characters t → Burst (s ++ word (checkOf s)) t k → checkOf t ≡ 0 → ⊥
-sent s t k hs ht b =
-    frame (characters-append s (word (checkFrom 0 s)) hs (characters-word (checkFrom 0 s) (checkOf-lt s hs))) ht b 0 (residue 0 s)
+-- a list is sent with its check characters behind it, from any start; what a burst makes of the frame does not leave 0
+pub sent : (v : ℕ) (s t : List ℕ) (k : ℕ) → v < 65536 → Characters s → Characters t → Burst (s ++ word (checkFrom v s)) t k → checkFrom v t ≡ 0 → ⊥
+sent v s t k h hs ht b =
+    frame (characters-append s (word (checkFrom v s)) hs (characters-word (checkFrom v s) (checkFrom-lt v s h hs))) ht b v (residue v s)
 
 -- where the last two characters of s are the check of those before, those of t are not
 pub stretch : (s t : List ℕ) (k : ℕ) → Characters s → Characters t → Burst s t k → 2 ≤ length s

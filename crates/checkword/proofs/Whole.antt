@@ -11,16 +11,16 @@ use lib.Pow.{split}
 use Rattle.chars.specs.Put.{part}
 use Rattle.chars.specs.Word.{word}
 use Rattle.chars.proofs.PutLaws.{length-part, part-add}
-use Rattle.checkword.specs.Check.{bitSteps, charStep, checkFrom, checkOf}
+use Rattle.checkword.specs.Check.{bitSteps, charStep, checkFrom}
 use Rattle.checkword.specs.Line.{line}
 use Rattle.checkword.proofs.Xor.{xor-assoc, xor-swap}
 use Rattle.checkword.proofs.Steps.{bitSteps-xor, bitSteps-add, bitSteps-shifted, bitSteps-0, window-zero}
 
--- parts in turn
-pub joined : (v : ℕ) (s t : List ℕ) → checkFrom v (s ++ t) ≡ checkFrom (checkFrom v s) t
+-- two parts in turn, the second from the check of the first, are the two joined
+pub in-turn : (v : ℕ) (a b : List ℕ) → checkFrom (checkFrom v a) b ≡ checkFrom v (a ++ b)
 unfolding checkFrom
-joined v [] t = refl
-joined v (c ∷ s) t = joined (charStep v c) s t
+in-turn v [] b = refl
+in-turn v (c ∷ a) b = in-turn (charStep v c) a b
 
 pub whole : (v : ℕ) (s : List ℕ) → checkFrom v s ≡ bitSteps (8 * length s) (bitXor v (line s))
 unfolding checkFrom charStep line
@@ -35,13 +35,13 @@ whole v (c ∷ s) =
     ∙ ap (λ x. bitSteps x (bitXor v (bitXor c (line s * 2 ^ 8)))) (omega arith)
 
 -- n characters more, from the check word of the i before them
-pub more : (s : List ℕ) (i n : ℕ) → i + n ≤ length s
-    → checkOf (part s 0 (i + n)) ≡ bitSteps (8 * n) (bitXor (checkOf (part s 0 i)) (line (part s i n)))
-more s i n h =
-    ap (λ x. checkOf x) (part-add s 0 i n ∙ ap (λ k. part s 0 i ++ part s k n) (zero-add i))
-    ∙ joined 0 (part s 0 i) (part s i n)
-    ∙ whole (checkOf (part s 0 i)) (part s i n)
-    ∙ ap (λ k. bitSteps (8 * k) (bitXor (checkOf (part s 0 i)) (line (part s i n)))) (length-part s i n h)
+pub more : (v : ℕ) (s : List ℕ) (i n : ℕ) → i + n ≤ length s
+    → checkFrom v (part s 0 (i + n)) ≡ bitSteps (8 * n) (bitXor (checkFrom v (part s 0 i)) (line (part s i n)))
+more v s i n h =
+    ap (checkFrom v) (part-add s 0 i n ∙ ap (λ k. part s 0 i ++ part s k n) (zero-add i))
+    ∙ sym (in-turn v (part s 0 i) (part s i n))
+    ∙ whole (checkFrom v (part s 0 i)) (part s i n)
+    ∙ ap (λ k. bitSteps (8 * k) (bitXor (checkFrom v (part s 0 i)) (line (part s i n)))) (length-part s i n h)
 
 -- ---- a list and its check characters leave 0
 
@@ -55,7 +55,7 @@ line-word v =
 
 pub residue : (v : ℕ) (s : List ℕ) → checkFrom v (s ++ word (checkFrom v s)) ≡ 0
 residue v s =
-    joined v s (word (checkFrom v s))
+    sym (in-turn v s (word (checkFrom v s)))
     ∙ whole (checkFrom v s) (word (checkFrom v s))
     ∙ ap (λ x. bitSteps (8 * length (word (checkFrom v s))) x)
     (ap (λ x. bitXor (checkFrom v s) x) (line-word (checkFrom v s)) ∙ xor-self (checkFrom v s))

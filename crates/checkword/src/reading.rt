@@ -35,7 +35,7 @@ pub fn eight(s: &[u8], i: usize) -> u64
 }
 
 // Fewer than four characters, in the high places: each comes in at the top.
-fn few(s: &[u8]) -> u64
+pub fn few(s: &[u8]) -> u64
     requires { ⌜ length (now s) < 4 ⌝ }
     ensures { λ r. ⌜ r ≡ line (now (s .entry)) * 2 ^ (64 - 8 * length (now (s .entry))) ⌝ }
 {
@@ -49,24 +49,13 @@ fn few(s: &[u8]) -> u64
 }
 
 // Four to eight characters, in the high places: the first four, and those of the last four that come after them.
-fn several(s: &[u8]) -> u64
+pub fn several(s: &[u8]) -> u64
     requires { ⌜ (4 ≤ length (now s)) × (length (now s) ≤ 8) ⌝ }
     ensures { λ r. ⌜ r ≡ line (now (s .entry)) * 2 ^ (64 - 8 * length (now (s .entry))) ⌝ }
 {
     let n = s.len();
     let k = 64 - 8 * n;
     ((four(s, 0) as u64) + (((four(s, n - 4) as u64) >> k) << 32)) << k
-}
-
-// All characters of a list of at most eight, in the high places.
-pub fn all(s: &[u8]) -> u64
-    requires { ⌜ length (now s) ≤ 8 ⌝ }
-    ensures { λ r. ⌜ r ≡ line (now (s .entry)) * 2 ^ (64 - 8 * length (now (s .entry))) ⌝ }
-{
-    if s.len() < 4 {
-        return few(s);
-    }
-    several(s)
 }
 
 // The first n characters, in the high places: those after them fall out.

@@ -54,7 +54,7 @@ pub fn hear(stretch: &[u8]) -> Heard
         return Heard::Broken;
     }
     let end = len - 2;
-    if word_at(stretch, end) != check_word(&stretch[..end]) {
+    if word_at(stretch, end) != check_word(0, &stretch[..end]) {
         return Heard::Wrong;
     }
     let address = word_at(stretch, 0);
@@ -95,7 +95,7 @@ pub fn fill(buffer: &mut [u8], head: Reply) -> usize
         return 0;
     }
     put_head(buffer, head);
-    let check = check_word(&buffer[..end]);
+    let check = check_word(0, &buffer[..end]);
     put_word(buffer, end, check);
     end + 2
 }
