@@ -273,8 +273,19 @@ static void layouts(void)
     EXPECT(OSTURDAM_DONE, osturdam_wait(&lent, 0));
 }
 
+static void checks(void)
+{
+    static const uint8_t poll[] = {0xD2, 0x0C, 0x00, 0x41, 0x00, 0x00, 0x52, 0x67};
+    expect("the check of a poll", 0x6752, osturdam_check(0, poll, 6));
+    for (int n = 0; n <= 6; n++)
+        expect("the check of its parts in turn", 0x6752, osturdam_check(osturdam_check(0, poll, n), poll + n, 6 - n));
+    expect("the check of the whole of it", 0, osturdam_check(0, poll, sizeof poll));
+    expect("the check of nothing", 0xA5C3, osturdam_check(0xA5C3, NULL, 0));
+}
+
 int main(void)
 {
+    checks();
     stretches();
     selects_and_writes();
     blocks();

@@ -189,6 +189,18 @@ static void check_reply(const struct call *c, const struct answer *t)
     hold(t->action == OSTURDAM_REST || (t->outcome == OSTURDAM_DONE && equipped), c, "no such operation", "");
 }
 
+/* Any stretch has the check of a plain loop, and that of its two parts in turn, wherever it is cut and whatever the start. */
+static void check_parts(const struct call *c)
+{
+    const uint8_t *s = lent[STRETCH].at;
+    size_t n = lent[STRETCH].length;
+    uint16_t start = line_check(s, n);
+    size_t cut = start % (n + 1);
+    uint16_t in_turn = osturdam_check(osturdam_check(start, s, cut), s + cut, n - cut);
+    hold(osturdam_check(0, s, n) == start, c, "another check of", "the stretch");
+    hold(in_turn == osturdam_check(start, s, n), c, "another check of", "two parts");
+}
+
 static void check_local(const struct call *c, uint8_t outcome)
 {
     if (c->kind == STORE)
@@ -203,10 +215,12 @@ static void check_answer(const struct call *c, const struct answer *t)
     bool is_short = c->kind == HEAR && lent[BUFFER].length < OSTURDAM_REPLY;
     hold(is_short || refused == !fit, c, fit ? "a unit in range was refused" : "a unit out of range was taken", "");
     check_memory(c, refused || is_short);
-    if (c->kind == HEAR)
+    if (c->kind == HEAR) {
+        check_parts(c);
         check_reply(c, t);
-    else if (!refused)
+    } else if (!refused) {
         check_local(c, t->outcome);
+    }
     hold(!fit || fits(after), c, "a unit in range was left out of it", "");
 }
 

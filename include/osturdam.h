@@ -257,6 +257,10 @@ struct osturdam_turned {
 /* The number of the layout that the library reads and writes, and by which it judges a unit's memory. */
 uint16_t osturdam_layout(void);
 
+/* The check of characters from `start`: 0, or the check of what stands before them. So head and data that lie in two buffers are checked in
+ * turn, and the check is that of the two joined; with its check characters behind it, low one first, a frame leaves 0. */
+uint16_t osturdam_check(uint16_t start, const uint8_t *chars, uint64_t count);
+
 /* 1 for a configuration that a unit can have, else 0. */
 uint8_t osturdam_valid(const uint8_t config[OSTURDAM_CONFIG]);
 

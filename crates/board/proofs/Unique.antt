@@ -15,6 +15,7 @@ use Rattle.unit.proofs.Unique.{one-event, one-laid}
 use Rattle.serve.specs.declared.Made.{Made}
 use Rattle.board.specs.Told.{turnedBy, TurnPromise, AnswerPromise}
 use Rattle.board.proofs.osturdam_layout.Reads as osturdam-layout
+use Rattle.board.proofs.osturdam_check.Reads as osturdam-check
 use Rattle.board.proofs.osturdam_valid.Reads as osturdam-valid
 use Rattle.board.proofs.osturdam_fresh.Reads as osturdam-fresh
 use Rattle.board.proofs.osturdam_stretch.Reads as osturdam-stretch
@@ -45,6 +46,9 @@ module _ (x y z : Owned) (long : length (x .unit) ≡ unitLong) (p : Characters 
 
 pub one-osturdam-layout : One osturdam-layout.Post (λ κ r s. r)
 one-osturdam-layout κ a x y s t p q = p ∙ sym q
+
+pub one-osturdam-check : One osturdam-check.Post (λ κ r s. r)
+one-osturdam-check κ a x y s t p q = p ∙ sym q
 
 pub one-osturdam-valid : One osturdam-valid.Post (λ κ r s. r)
 one-osturdam-valid κ a x y s t p q = p ∙ sym q

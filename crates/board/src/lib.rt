@@ -5,6 +5,7 @@ mod answers;
 use answers::action_number;
 use answers::answer_number;
 use answers::output_number;
+use checkword::check_word;
 use frames::outcomes::number;
 use layout::CONFIG;
 use layout::CURRENT;
@@ -15,6 +16,7 @@ use model::SpecialCalculation;
 ghost use mathlib.Core.Path.{_≡_};
 ghost use mathlib.Core.Bool.{cond};
 ghost use lib.ListN.{length};
+ghost use Rattle.checkword.specs.Check.{checkFrom};
 ghost use Rattle.model.specs.Config.{validOf};
 ghost use Rattle.model.specs.Event.{elapsed, setWord, setValue, pulses, store, local};
 ghost use Rattle.layout.specs.Unit.{layoutNumber, configGiven};
@@ -28,6 +30,14 @@ pub extern "C" fn osturdam_layout() -> u16
     ensures { λ r. ⌜ r ≡ layoutNumber ⌝ }
 {
     CURRENT
+}
+
+// The check of characters from a starting value, so that those of two buffers are checked in turn: the second from the check of the first.
+#[no_mangle]
+pub extern "C" fn osturdam_check(start: u16, s: &[u8]) -> u16
+    ensures { λ r. ⌜ r ≡ checkFrom start (now (s .entry)) ⌝ }
+{
+    check_word(start, s)
 }
 
 // 1 for a valid configuration: whether a fresh unit of it, with all that it asks for, would be taken.

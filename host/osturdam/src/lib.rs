@@ -56,3 +56,22 @@ pub const BLOCK: usize = header::BLOCK as usize;
 pub const ROOM: usize = header::ROOM as usize;
 /// The most values in a record.
 pub const VALUES: usize = header::VALUES as usize;
+
+/// The check of characters from a start: 0, or the check of what stands before them.
+///
+/// So head and data that lie in two buffers are checked in turn, and the check is that of the two joined.
+///
+/// ```
+/// use osturdam::check;
+///
+/// let (head, data) = ([0xD2, 0x0C, 0x28, 0x41, 0x02, 0x00], [0x05, 0x00]);
+/// let in_turn = check(check(0, &head), &data);
+/// assert_eq!(in_turn, check(0, &[head.as_slice(), &data].concat()));
+///
+/// // with its check characters behind it, low one first, a frame leaves 0
+/// assert_eq!(check(in_turn, &in_turn.to_le_bytes()), 0);
+/// assert_eq!(check(in_turn, &[]), in_turn);
+/// ```
+pub fn check(start: u16, chars: &[u8]) -> u16 {
+    raw::check(start, chars)
+}

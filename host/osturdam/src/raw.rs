@@ -21,6 +21,7 @@ pub(crate) struct Turned {
 
 #[rustfmt::skip] // as the C header has them: what is lent, then the event
 extern "C" {
+    fn osturdam_check(start: u16, chars: *const u8, count: u64) -> u16;
     fn osturdam_valid(config: *const [u8; CONFIG]) -> u8;
     fn osturdam_fresh(
         unit: *mut Chars, block: *mut u8, length: u64, config: *const [u8; CONFIG]);
@@ -45,6 +46,11 @@ extern "C" {
 }
 
 const ROOM: u64 = RECORDS as u64;
+
+pub(crate) fn check(start: u16, chars: &[u8]) -> u16 {
+    // SAFETY: above.
+    unsafe { osturdam_check(start, chars.as_ptr(), chars.len() as u64) }
+}
 
 pub(crate) fn valid(config: &Config) -> bool {
     // SAFETY: above.
