@@ -15,6 +15,17 @@ static void three_parts(void)
     write_tables(area);
 }
 
+// Tables 1 to 15 of a word each. Only the last has nibbles, 14 and 1.
+static void fifteen(void)
+{
+    uint8_t area[256] = {[42] = 0xE1};
+    for (int i = 0; i < 15; i++) {
+        area[3 * i + 1] = 1;
+        area[3 * i + 2] = 0x80 + i;
+    }
+    write_tables(area);
+}
+
 static void points(void)
 {
     ask(0x00, 0x4D, "", 0, 1, OSTURDAM_DONE);
@@ -24,6 +35,18 @@ static void table(void)
 {
     three_parts();
     ask(0x0A, 0x42, "", 0, 1, OSTURDAM_DONE);
+}
+
+static void last_table(void)
+{
+    fifteen();
+    ask(0x0A, 0x4F, "", 0, 1, OSTURDAM_DONE);
+}
+
+static void first_table(void)
+{
+    fifteen();
+    ask(0x0A, 0x41, "", 0, 1, OSTURDAM_DONE);
 }
 
 static void values(void)
@@ -62,14 +85,14 @@ int main(int argc, char **argv)
     static const struct {
         const char *name;
         void (*run)(void);
-    } rows[] = {{"points", points},  {"table", table},     {"values", values},  {"dump", dump},
-                {"store", one_more}, {"release", release}, {"refused", refused}};
+    } rows[] = {{"points", points}, {"table", table},    {"last", last_table}, {"first", first_table}, {"values", values},
+                {"dump", dump},     {"store", one_more}, {"release", release}, {"refused", refused}};
     equip(POINTS);
     for (size_t i = 0; argc == 2 && i < sizeof rows / sizeof rows[0]; i++)
         if (strcmp(argv[1], rows[i].name) == 0) {
             rows[i].run();
             return 0;
         }
-    fprintf(stderr, "usage: rows points | table | values | dump | store | release | refused\n");
+    fprintf(stderr, "usage: rows points | table | last | first | values | dump | store | release | refused\n");
     return 2;
 }
