@@ -1,4 +1,5 @@
 -- The laws that the proofs of this crate and of its users cite.
 pub mod TableLaws
+pub mod WalkLaws
 pub mod Fits
 pub mod Unique

@@ -193,6 +193,8 @@ module _ (table fixed words : List ℕ) (q : Request) where
   tables-high h k = simp (within-high 0x41 0x4F (q .command) h k)
 
   pub tables-known : 0x41 ≤ q .command → q .command ≤ 0x4F
-      → tablesOf table fixed words q ≡ withNoData q (tableScan table (tableArea fixed) words (q .command % 16))
+      → tablesOf table fixed words q ≡ withNoData q (tableScan table (tableArea fixed) words (q .command - 0x40))
   unfolding tablesOf
-  tables-known h k = simp (within-both 0x41 0x4F (q .command) h k)
+  tables-known h k =
+      let e : q .command % 16 ≡ q .command - 0x40 = omega arith in
+      simp (within-both 0x41 0x4F (q .command) h k, e)

@@ -8,7 +8,9 @@ use model::Reply;
 use model::Table;
 use points::refused;
 ghost use mathlib.Core.Path.{_≡_};
-ghost use Prim.Native.Nat.{_+_, _*_, _≤_};
+ghost use Prim.Native.Nat.{_+_, _*_, _-_, _≤_, _<_, max};
+ghost use mathlib.Core.Bool.{true};
+ghost use mathlib.Core.List.{[]};
 ghost use lib.ListN.{length};
 ghost use Rattle.chars.specs.Put.{part};
 ghost use Rattle.chars.specs.Gather.{Gathered, every};
@@ -19,35 +21,53 @@ ghost use Rattle.model.specs.Scan.{Fills, inRoom};
 ghost use Rattle.model.specs.Tables.{standsAt, tableAt, startOf, tableOf, sendable, wordIn, sendOf, tableScan, tablesOf};
 ghost use Rattle.layout.specs.Unit.{unitIn, configIn};
 ghost use Rattle.tables.specs.Judged.{Within, allSendable};
+ghost use Rattle.tables.specs.Walked.{areaLong, Passed, StartKept, Found};
+
+// No table starts at the last character of the area, so the start of one fits a character, and this stands for none.
+const NO_START: u8 = 255;
+
+// ST1, ST2 and the table itself.
+struct Parts {
+    one: Table,
+    two: Table,
+    own: Table,
+}
 
 fn stands(area: &[u8], s: usize) -> bool
-    requires { ⌜ s ≤ length (now area) ⌝ }
+    requires { ⌜ (length (now area) ≤ areaLong) × (s ≤ length (now area)) ⌝ }
     ensures { λ r. ⌜ r ≡ standsAt (now (area .entry)) s ⌝ }
 {
-    let left = area.len() - s;
-    if left < 2 {
+    if area.len() - s < 2 {
         return false;
     }
     let n = chars::wide(area[s + 1]);
-    if left < n + 2 {
+    if area.len() < s + 2 + n {
         return false;
     }
     let nibbles = area[s];
     if nibbles == 0 { n != 0 } else { true }
 }
 
+fn standing(area: &[u8], s: usize) -> Table
+    requires { ⌜ (length (now area) ≤ areaLong) × (standsAt (now area) s ≡ true) ⌝ }
+    ensures { λ r. ⌜ r ≡ tableAt (now (area .entry)) s ⌝ }
+    ensures { λ r. ⌜ Within (now (area .entry)) r ⌝ }
+{
+    Table {
+        present: true,
+        nibbles: area[s],
+        start: s + 2,
+        quantity: area[s + 1],
+    }
+}
+
 fn table_at(area: &[u8], s: usize) -> Table
-    requires { ⌜ s ≤ length (now area) ⌝ }
+    requires { ⌜ (length (now area) ≤ areaLong) × (s ≤ length (now area)) ⌝ }
     ensures { λ r. ⌜ r ≡ tableAt (now (area .entry)) s ⌝ }
     ensures { λ r. ⌜ Within (now (area .entry)) r ⌝ }
 {
     if stands(area, s) {
-        Table {
-            present: true,
-            nibbles: area[s],
-            start: s + 2,
-            quantity: area[s + 1],
-        }
+        standing(area, s)
     } else {
         Table {
             present: false,
@@ -58,37 +78,106 @@ fn table_at(area: &[u8], s: usize) -> Table
     }
 }
 
-// Where the table after the first k would start. The walk ends at the first that is absent: so are all after it.
-fn start(area: &[u8], k: u8) -> usize
-    ensures { λ r. ⌜ r ≡ startOf (now (area .entry)) k ⌝ }
-    ensures { λ r. ⌜ r ≤ length (now (area .entry)) ⌝ }
+// Number 0 names none, which is there with no numbers.
+fn none() -> Table
+    ensures { λ r. ⌜ r ≡ tableOf [] 0 ⌝ }
 {
-    let mut s = 0;
-    for j in 0..k {
-        let t = table_at(area, s);
+    Table {
+        present: true,
+        nibbles: 0,
+        start: 0,
+        quantity: 0,
+    }
+}
+
+fn later(a: u8, b: u8) -> u8
+    ensures { λ r. ⌜ r ≡ max a b ⌝ }
+{
+    if a < b {
+        return b;
+    }
+    a
+}
+
+// Past tables from + 1 to to, each kept at its number; where the next would start. It ends at the first that is absent: so are all after it.
+fn walk(area: &[u8], starts: &mut [u8], s: usize, from: u8, to: u8) -> usize
+    requires { ⌜ (length (now area) ≤ areaLong) × (to < length (now starts)) ⌝ }
+    requires { ⌜ (s ≡ startOf (now area) from) × (s ≤ length (now area)) × Passed (now area) (now starts) from ⌝ }
+    ensures { λ r. ⌜ (r ≡ startOf (now (area .entry)) (max from to)) × (r ≤ length (now (area .entry))) ⌝ }
+    ensures { λ r. ⌜ Passed (now (area .entry)) (now (starts .exit)) (max from to) ⌝ }
+{
+    let mut next = s;
+    for k in from..to {
+        let t = table_at(area, next);
         if t.present {
-            s = t.start + (t.quantity as usize);
+            starts[(k + 1) as usize] = next as u8;
+            next = t.start + (t.quantity as usize);
         } else {
             return area.len();
         }
     }
-    s
+    next
 }
 
-fn table_of(area: &[u8], k: u8) -> Table
+// A table that was passed is not judged again; at the area's end stands none.
+fn named(area: &[u8], starts: &[u8], k: u8) -> Table
+    requires { ⌜ (length (now area) ≤ areaLong) × StartKept (now area) (now starts) k ⌝ }
     ensures { λ r. ⌜ r ≡ tableOf (now (area .entry)) k ⌝ }
     ensures { λ r. ⌜ Within (now (area .entry)) r ⌝ }
 {
     if k == 0 {
-        Table {
-            present: true,
-            nibbles: 0,
-            start: 0,
-            quantity: 0,
-        }
-    } else {
-        table_at(area, start(area, k - 1))
+        return none();
     }
+    let s = starts[k as usize];
+    if s == NO_START {
+        return table_at(area, area.len());
+    }
+    standing(area, chars::wide(s))
+}
+
+// What the nibbles of table k at s name lies before it, and is kept, or behind it, and the walk goes on.
+fn follow(area: &[u8], starts: &mut [u8], s: usize, k: u8) -> Parts
+    requires { ⌜ (0 < k) × (k ≤ 15) × (length (now starts) ≡ 16) × (length (now area) ≤ areaLong) ⌝ }
+    requires { ⌜ (s ≡ startOf (now area) (k - 1)) × (standsAt (now area) s ≡ true) × Passed (now area) (now starts) (k - 1) ⌝ }
+    ensures { λ r. ⌜ Found (now (area .entry)) k r ⌝ }
+{
+    let own = standing(area, s);
+    let nibbles = own.nibbles;
+    let last = later(nibbles / 16, nibbles % 16);
+    starts[k as usize] = s as u8;
+    walk(area, starts, own.start + (own.quantity as usize), k, last);
+    let one = named(area, starts, own.nibbles / 16);
+    let two = named(area, starts, own.nibbles % 16);
+    Parts {
+        one: one,
+        two: two,
+        own: own,
+    }
+}
+
+// Nibbles are known once their table is reached, and most tables have none.
+fn find(area: &[u8], starts: &mut [u8], k: u8) -> Parts
+    requires { ⌜ (0 < k) × (k ≤ 15) × (length (now starts) ≡ 16) × (length (now area) ≤ areaLong) × Passed (now area) (now starts) 0 ⌝ }
+    ensures { λ r. ⌜ Found (now (area .entry)) k r ⌝ }
+{
+    let s = walk(area, starts, 0, 0, k - 1);
+    let own = table_at(area, s);
+    if own.nibbles == 0 {
+        return Parts {
+            one: none(),
+            two: none(),
+            own: own,
+        };
+    }
+    follow(area, starts, s, k)
+}
+
+fn parts_of(area: &[u8], k: u8) -> Parts
+    requires { ⌜ (0 < k) × (k ≤ 15) × (length (now area) ≤ areaLong) ⌝ }
+    ensures { λ r. ⌜ Found (now (area .entry)) k r ⌝ }
+{
+    let mut starts: [u8; 16] = [NO_START; 16];
+    find(area, &mut starts, k)
 }
 
 // Whether each of the n numbers of area from index from on is equipped.
@@ -185,13 +274,14 @@ fn send(
 }
 
 fn table_scan(unit: &[u8; UNIT], area: &[u8], k: u8, reply: &mut [u8]) -> Filled
-    requires { ⌜ longestReply ≤ length (now reply) ⌝ }
+    requires { ⌜ (0 < k) × (k ≤ 15) × (length (now area) ≤ areaLong) × (longestReply ≤ length (now reply)) ⌝ }
     ensures { λ r. ⌜ Fills (now (reply .entry)) (now (reply .exit))
         (tableScan (configIn (now (unit .entry)) .inputs) (now (area .entry)) (unitIn (now (unit .entry)) .words) k) r ⌝ }
 {
-    let own = table_of(area, k);
-    let one = table_of(area, own.nibbles / 16);
-    let two = table_of(area, own.nibbles % 16);
+    let parts = parts_of(area, k);
+    let one = parts.one;
+    let two = parts.two;
+    let own = parts.own;
     send(unit, area, one, two, own, reply)
 }
 
@@ -216,5 +306,6 @@ pub fn scan<'a>(unit: &'a [u8; UNIT], frame: Frame, body: &'a [u8], reply: &mut 
     }
     chars::told_long(unit);
     let fixed = layout::fixed_of(unit);
-    table_scan(unit, &fixed[16..272], command % 16, reply)
+    // No remainder: with one the compiler keeps the command twice, at the cost of every function.
+    table_scan(unit, &fixed[16..272], command - 0x40, reply)
 }

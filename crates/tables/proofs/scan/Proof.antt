@@ -50,6 +50,9 @@ fixed-of-requires c κs = search needs
 sub-table-scan : tie.Need-sub-table-scan
 sub-table-scan c = search needs
 
+sub-table-scan-2 : tie.Need-sub-table-scan-2
+sub-table-scan-2 c = search needs
+
 part-table-scan-start : tie.Need-part-table-scan-start
 part-table-scan-start c = search needs
 
@@ -90,6 +93,7 @@ scan-spec =
     sub-table-scan
     part-table-scan-start
     part-table-scan-end
+    sub-table-scan-2
     table-scan-requires
     same-length
     returns-5)

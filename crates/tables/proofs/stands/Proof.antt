@@ -6,8 +6,8 @@ use borrow.Author.Needs.{needs}
 use Rattle.tables.proofs.stands.Statement.{statement}
 use Rattle.tables.proofs.stands.Tie as tie
 
-sub-left : tie.Need-sub-left
-sub-left c = search needs
+sub-if1 : tie.Need-sub-if1
+sub-if1 c = search needs
 
 returns : tie.Need-returns
 returns c = sym (stands-short _ _ (omega arith))
@@ -23,6 +23,9 @@ wide-requires c κs = search needs
 
 add-if2 : tie.Need-add-if2
 add-if2 c = search needs
+
+add-if2-2 : tie.Need-add-if2-2
+add-if2-2 c = search needs
 
 returns-2 : tie.Need-returns-2
 returns-2 c = sym (stands-short _ _ (omega arith))
@@ -40,12 +43,13 @@ pub stands-spec : {M : Type 1} → statement M
 stands-spec =
     tie.close
     (tie.spec
-    sub-left
+    sub-if1
     returns
     add-wide
     shared-slice-read-wide
     wide-requires
     add-if2
+    add-if2-2
     returns-2
     shared-slice-read-nibbles
     returns-3

@@ -4,14 +4,8 @@ use borrow.Author.Needs.{needs}
 use Rattle.tables.proofs.table_scan.Statement.{statement}
 use Rattle.tables.proofs.table_scan.Tie as tie
 
-table-of-requires : tie.Need-table-of-requires
-table-of-requires c κs = search needs
-
-table-of-requires-2 : tie.Need-table-of-requires-2
-table-of-requires-2 c κs = search needs
-
-table-of-requires-3 : tie.Need-table-of-requires-3
-table-of-requires-3 c κs = search needs
+parts-of-requires : tie.Need-parts-of-requires
+parts-of-requires c κs = search needs
 
 send-requires : tie.Need-send-requires
 send-requires c κs = search needs
@@ -21,15 +15,8 @@ same-length c = search needs
 
 returns : tie.Need-returns
 returns c =
-    scan-fills _ _ _ _ (c .before .before .before .before .before .before .table-of2 .ensures .0) (c .before .before .before .before .table-of3 .ensures .0) (c .before .before .before .before .before .before .before .before .table-of .ensures .0) (c .before .before .send .ensures)
+    let f = c .before .before .before .before .before .before .before .parts-of .ensures in
+    scan-fills _ _ _ _ (f .one) (f .two) (f .own) (c .before .before .send .ensures)
 
 pub table-scan-spec : {M : Type 1} → statement M
-table-scan-spec =
-    tie.close
-    (tie.spec
-    table-of-requires
-    table-of-requires-2
-    table-of-requires-3
-    send-requires
-    same-length
-    returns)
+table-scan-spec = tie.close (tie.spec parts-of-requires send-requires same-length returns)
