@@ -45,7 +45,7 @@ static void fill(void)
         expect("a value", set_value(&u, i, 0x01030507u * i), OSTURDAM_DONE);
 }
 
-void equip(int points)
+static void equip_all(int points, int files)
 {
     struct osturdam_config *c = &u.config;
     memset(c, 0, sizeof *c);
@@ -58,10 +58,21 @@ void equip(int points)
         osturdam_equip_output(c, i);
     for (int i = 0; i < 127; i++)
         osturdam_equip_calculation(c, i);
-    for (int i = 0; i < OSTURDAM_FILES; i++)
+    for (int i = 0; i < files; i++)
         osturdam_equip_file(c, i, OSTURDAM_VALUES);
     fresh(&u);
     fill();
+}
+
+void equip(int points)
+{
+    equip_all(points, OSTURDAM_FILES);
+}
+
+void equip_files(int files)
+{
+    equip_all(POINTS, files);
+    u.lent.room = osturdam_room_of(&u.config);
 }
 
 void store(int file, int n)

@@ -16,6 +16,9 @@ void ask(unsigned function, unsigned command, const void *data, size_t count, in
 // So many of the 208 points, the analogs first; 127 calculations, 32 files of the longest records, the longest parameter block.
 void equip(int points);
 
+// The same with so many files of the 32, and just the room lent that they ask for.
+void equip_files(int files);
+
 // So many of the longest records into a file.
 void store(int file, int n);
 

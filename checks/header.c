@@ -164,7 +164,7 @@ static void records(void)
     const uint8_t last = OSTURDAM_FILES - 1;
     begin();
     for (int i = 0; i < OSTURDAM_ROOM; i++) {
-        uint64_t place = osturdam_record_place(last, (uint8_t)i);
+        uint64_t place = osturdam_record_place(&config, last, (uint8_t)i);
         EXPECT(OSTURDAM_STORED, stored(last, OSTURDAM_VALUES));
         expect("a record's event", 7, all.records[place]);
         expect("a record's first value", 0x1234, osturdam_word_at(all.records + place + OSTURDAM_RECORD_HEAD));
@@ -182,8 +182,55 @@ static void records(void)
     expect("the reply's master", OTHER, kept(OSTURDAM_MEMORY_MASTER));
     expect("the reply's file", last, kept(OSTURDAM_MEMORY_FILE));
     expect("the reply's dump", 1, kept(OSTURDAM_MEMORY_DUMP));
-    expect("the reply's quantity", (OSTURDAM_REPLY - 10) / OSTURDAM_RECORD_SLOT, kept(OSTURDAM_MEMORY_QUANTITY));
+    expect("the reply's quantity", (OSTURDAM_REPLY - 10) / osturdam_record_length(&config, last), kept(OSTURDAM_MEMORY_QUANTITY));
     expect("the reply's more", 1, kept(OSTURDAM_MEMORY_MORE));
+}
+
+/* Files of three lengths with others between them that are not equipped, lent just what they ask for: each record is found at its place, and
+ * one character less is too few. */
+static void packed(void)
+{
+    static const uint8_t files[] = {2, 3, 30}, values[] = {1, OSTURDAM_VALUES, 5};
+    static const uint16_t given[OSTURDAM_VALUES] = {0x1234};
+    enum { ASKED = OSTURDAM_RECORDS_OF(1) + OSTURDAM_RECORDS_OF(OSTURDAM_VALUES) + OSTURDAM_RECORDS_OF(5) };
+    memset(&config, 0, sizeof config);
+    for (int i = 0; i < 3; i++)
+        osturdam_equip_file(&config, files[i], values[i]);
+    start();
+    lent.room = ASKED;
+    memset(all.records, 0, sizeof all.records);
+    EXPECT(ASKED, (int)osturdam_room_of(&config));
+    EXPECT(ASKED, (int)osturdam_record_place(&config, OSTURDAM_FILES, 0));
+    for (int i = 0; i < 3 * OSTURDAM_ROOM; i++)
+        EXPECT(OSTURDAM_STORED, osturdam_take_record(&lent, files[i % 3], (uint8_t)(1 + i / 3), given, values[i % 3]));
+    for (int i = 0; i < 3 * OSTURDAM_ROOM; i++) {
+        const uint8_t *record = all.records + osturdam_record_place(&config, files[i % 3], (uint8_t)(i / 3));
+        expect("a record's event at its place", 1 + i / 3, record[0]);
+        expect("a record's first value at its place", 0x1234, osturdam_word_at(record + OSTURDAM_RECORD_HEAD));
+    }
+    for (int i = ASKED; i < OSTURDAM_RECORDS; i++)
+        expect("a character behind the records", 0, all.records[i]);
+    lent.room = ASKED - 1;
+    EXPECT(OSTURDAM_NOT_CONFIGURED, osturdam_wait(&lent, 0));
+    EXPECT(OSTURDAM_STORE_NOT_CONFIGURED, osturdam_take_record(&lent, 2, 7, given, 1));
+}
+
+/* The longest records in every file ask for the most, and nothing equipped for nothing. */
+static void most_records(void)
+{
+    memset(&config, 0, sizeof config);
+    start();
+    lent.records = NULL;
+    lent.room = 0;
+    expect("the room of no files", 0, (int)osturdam_room_of(&config));
+    EXPECT(OSTURDAM_DONE, osturdam_wait(&lent, 0));
+    for (uint8_t file = 0; file < OSTURDAM_FILES; file++)
+        osturdam_equip_file(&config, file, OSTURDAM_VALUES);
+    EXPECT(OSTURDAM_RECORDS, (int)osturdam_room_of(&config));
+    start();
+    EXPECT(OSTURDAM_DONE, osturdam_wait(&lent, 0));
+    lent.room = OSTURDAM_RECORDS - 1;
+    EXPECT(OSTURDAM_NOT_CONFIGURED, osturdam_wait(&lent, 0));
 }
 
 static void points(void)
@@ -229,7 +276,7 @@ static void configurations(void)
     EXPECT(UNIT, osturdam_number_of(&all.unit.config));
     EXPECT(OSTURDAM_BLOCK, osturdam_length_of(&all.unit.config));
     EXPECT(OSTURDAM_VALUES, osturdam_values_of(&all.unit.config, 0));
-    lent.room = OSTURDAM_RECORDS - 1;
+    lent.room = osturdam_room_of(&config) - 1;
     EXPECT(OSTURDAM_NOT_CONFIGURED, osturdam_wait(&lent, 0));
     EXPECT(OSTURDAM_STORE_NOT_CONFIGURED, stored(0, OSTURDAM_VALUES));
     lent.records = records;
@@ -290,6 +337,8 @@ int main(void)
     selects_and_writes();
     blocks();
     records();
+    packed();
+    most_records();
     points();
     clock_and_port();
     configurations();

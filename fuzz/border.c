@@ -1,14 +1,15 @@
 /* A run of events over the C interface from any bytes: a configuration, a kept state that may be any, then events of any lengths.
  * fuzz/seeds.py writes such bytes and has their layout. */
 #include "call.h"
+#include "judge.h"
 #include "lent.h"
 #include "line.h"
 #include "osturdam.h"
 
 #include <stdlib.h>
 
-enum { MOST_EVENTS = 48, AGAIN = 509 };
-enum flags { ANY_CONFIG = 1, ANY_STATE = 2, NULLS = 4 };
+enum { MOST_EVENTS = 48, AGAIN = 509, ABOUT = 2 };
+enum flags { ANY_CONFIG = 1, ANY_STATE = 2, NULLS = 4, MOST_ROOM = 8 };
 enum to { OWN, ALL, ANOTHER };
 
 /* Functions with the commands that they have; below the high nibble of a file's or table's command any file or table. */
@@ -69,6 +70,14 @@ static void configure(unsigned seed, unsigned density)
         lent[CONFIG].at[OSTURDAM_AT_VALUES - OSTURDAM_AT_NUMBER + f] = (uint8_t)(1 + mixed(seed, f) % OSTURDAM_VALUES);
 }
 
+/* What the configuration asks for. */
+static size_t asked_here(void)
+{
+    struct osturdam_config c;
+    memcpy(&c, lent[CONFIG].at, sizeof c);
+    return (size_t)asked(&c);
+}
+
 /* The unit is fresh, or its memory is any with the layout's number and the configuration in it. */
 static void begin(struct call *c)
 {
@@ -82,7 +91,7 @@ static void begin(struct call *c)
     osturdam_word_to(lent[CONFIG].at, (uint16_t)(any ? unit : unit % LINE_BROADCAST));
     osturdam_word_to(lent[CONFIG].at + OSTURDAM_AT_LENGTH - OSTURDAM_AT_NUMBER, (uint16_t)length);
     lent_place(BLOCK, length <= lent_most(BLOCK) ? length : 0);
-    lent_place(RECORDS, OSTURDAM_RECORDS);
+    lent_place(RECORDS, (flags & MOST_ROOM) != 0 || asked_here() > OSTURDAM_RECORDS ? OSTURDAM_RECORDS : asked_here());
     lent_place(BUFFER, room % (lent_most(BUFFER) + 1));
     lent_place(STRETCH, 0);
     lent_place(GIVEN, 0);
@@ -180,12 +189,18 @@ static void read_number(void)
     osturdam_word_to(lent[UNIT].at + OSTURDAM_AT_NUMBERS + 2 * which, (uint16_t)next(2));
 }
 
-/* Another room, or another length of what is lent as the parameter block or for records. */
+/* Another room, or another length of what is lent as the parameter block or for records; the last of the four is just about what a fresh
+ * unit asks for. */
 static void read_lengths(void)
 {
-    static const enum part of[] = {BLOCK, BUFFER, RECORDS, BUFFER};
-    enum part part = of[next(1) % (sizeof of / sizeof of[0])];
-    lent_place(part, next(2) % (lent_most(part) + 1));
+    static const enum part of[] = {BLOCK, BUFFER, RECORDS, RECORDS};
+    unsigned which = next(1) % (sizeof of / sizeof of[0]), length = next(2);
+    enum part part = of[which];
+    size_t about = asked_here() + length % (2 * ABOUT + 1), most = lent_most(part);
+    if (which < sizeof of / sizeof of[0] - 1)
+        lent_place(part, length % (most + 1));
+    else if (about >= ABOUT && about - ABOUT <= most)
+        lent_place(part, about - ABOUT);
     fill(part, 0);
 }
 

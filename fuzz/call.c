@@ -143,8 +143,9 @@ static void check_memory(const struct call *c, bool away)
     for (enum region r = 0; r < REGIONS; r++)
         if ((within >> r & 1) == 0)
             hold(as_before(UNIT, regions[r].from, regions[r].to), c, "changed:", regions[r].name);
-    if (lent[RECORDS].length > OSTURDAM_RECORDS)
-        hold(as_before(RECORDS, OSTURDAM_RECORDS, lent[RECORDS].length), c, "changed behind the", "records");
+    struct osturdam_unit u = unit_in(before);
+    if (lent[RECORDS].length > asked(&u.config))
+        hold(as_before(RECORDS, asked(&u.config), lent[RECORDS].length), c, "changed behind the", "records");
 }
 
 static bool zeros(const uint8_t *chars, size_t many)
@@ -166,7 +167,8 @@ static void check_fresh(const struct call *c)
         uint16_t wanted = which == OSTURDAM_DAY || which == OSTURDAM_STATUS_CONFIGURE ? 1 : 0;
         hold(osturdam_kept_of(&u, (enum osturdam_kept)which) == wanted, c, "left in the fresh", "numbers");
     }
-    bool valid = judge(&u, osturdam_length_of(&u.config), OSTURDAM_RECORDS);
+    hold(osturdam_room(lent[CONFIG].at) == asked(&u.config), c, "another room is asked for", "");
+    bool valid = judge(&u, osturdam_length_of(&u.config), asked(&u.config));
     hold(osturdam_valid(lent[CONFIG].at) == (valid ? 1 : 0), c,
          valid ? "a configuration in range is not valid" : "one out of range is valid", "");
 }

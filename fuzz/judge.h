@@ -6,6 +6,9 @@
 
 #include <stdbool.h>
 
+/* How many characters of records a configuration asks for. */
+uint64_t asked(const struct osturdam_config *c);
+
 /* Of a unit that is lent a parameter block of this length and this room for records. */
 bool judge(const struct osturdam_unit *u, uint64_t length, uint64_t room);
 

@@ -16,6 +16,7 @@ uint8_t __wrap_osturdam_stretch(PARAMETERS)
     uint8_t outcome = __real_osturdam_stretch(unit, block, length, records, room, buffer, buffer_room, chars, count, turned);
     uint16_t sent = osturdam_word_at(turned);
     bool answered = sent > 0, done = outcome == OSTURDAM_DONE, refused = outcome == OSTURDAM_NOT_CONFIGURED;
+    uint64_t asked = osturdam_room(unit + OSTURDAM_AT_NUMBER);
     bool other = osturdam_word_at(unit + OSTURDAM_AT_LAYOUT) != OSTURDAM_LAYOUT;
     calls++;
     /* clang-format off */
@@ -29,9 +30,9 @@ uint8_t __wrap_osturdam_stretch(PARAMETERS)
     case 7: if (refused) outcome = OSTURDAM_NOT_WHOLE; break;                         /* a unit out of range is served */
     case 8: if (buffer_room < OSTURDAM_REPLY) outcome = OSTURDAM_NOT_WHOLE; break;    /* a short buffer is served */
     case 9: if (done) unit[OSTURDAM_AT_OUTPUTS] ^= 2; break;                          /* the configuration changed by an event */
-    case 10: if (done && room > OSTURDAM_RECORDS) records[OSTURDAM_RECORDS] ^= 1; break; /* written behind the records */
+    case 10: if (done && room > asked) records[asked] ^= 1; break;                     /* written behind the records */
     case 11: if (done) unit[OSTURDAM_UNIT] = 0; break;                                /* written past the unit */
-    case 12: if (refused && room < OSTURDAM_RECORDS) outcome = OSTURDAM_NOT_WHOLE; break; /* served with too few records */
+    case 12: if (refused && room < asked) outcome = OSTURDAM_NOT_WHOLE; break;        /* served with too few records */
     case 13: if (refused && other) outcome = OSTURDAM_NOT_WHOLE; break;               /* a memory of another layout is served */
     }
     /* clang-format on */

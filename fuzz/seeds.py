@@ -13,7 +13,7 @@ with open(os.path.join(FOLDER, '../include/osturdam.h'), encoding='utf-8') as he
     NUMBERS = {name: int(number) for name, number in re.findall(r'^    OSTURDAM_(\w+) = (\d+)\b', header.read(), re.M)}
 BLOCK, REPLY, RECORDS, ROOM = (NUMBERS[name] for name in ('BLOCK', 'REPLY', 'RECORDS', 'ROOM'))
 FRAME, VALUES, HOLD, SILENT, LAYOUT = (NUMBERS[name] for name in ('FRAME', 'VALUES', 'HOLD_MS', 'SILENT_MS', 'LAYOUT'))
-ANY_CONFIG, ANY_STATE, NULLS = 1, 2, 4
+ANY_CONFIG, ANY_STATE, NULLS, MOST_ROOM = 1, 2, 4, 8
 OWN, ALL, ANOTHER = 0, 1, 2
 COMMANDS = [(0x00, 0x41), (0x00, 0x4D), (0x03, 0x00), (0x03, 0x80), (0x04, 0x00), (0x04, 0x20), (0x04, 0x40), (0x04, 0x60), (0x0A, 0x40), (0x10, 0x10),
             (0x10, 0x11), (0x10, 0x20), (0x10, 0x21), (0x20, 0x00), (0x20, 0x11), (0x20, 0x30), (0x20, 0x31), (0x20, 0x38), (0x28, 0x30), (0x28, 0x31)]
@@ -74,6 +74,11 @@ def records(length):
     return struct.pack('<BBH', 15, 2, length)
 
 
+def about(more):
+    """Room for records by how much more it is than what is asked for, -2 to 2."""
+    return struct.pack('<BBH', 15, 3, 2 + more)
+
+
 def write(ordinal, bias, data, master=1):
     return frame(0x20, 0x30, struct.pack('<HB', bias, ordinal), master) + frame(0x20, 0x31, data, master)
 
@@ -108,7 +113,11 @@ INPUTS = {
     'rooms': head(room=REPLY - 1) + SCAN + room(REPLY) + SCAN + room(0) + SCAN + room(1100) + SCAN,
     'nulls': head(NULLS, length=0, room=0) + stretch(b'') + room(REPLY) + stretch(b'') + frame(0x28, 0x30, b'\0\0\6\0') + elapsed(0),
     'block-other': head() + block(BLOCK - 1) + SCAN + block(BLOCK + 1) + elapsed(1) + block(BLOCK) + SCAN,
-    'records': head() + records(RECORDS) + record(0) + SCAN + records(RECORDS + 1) + DUMP + SCAN + records(RECORDS - 1) + SCAN + record(0) + elapsed(1),
+    'records': head() + about(0) + record(0) + SCAN + about(1) + DUMP + SCAN + about(-1) + SCAN + record(0) + elapsed(1),
+    'records-most': head(MOST_ROOM) + record(0) + SCAN + records(RECORDS + 1) + DUMP + SCAN + records(RECORDS - 1) + SCAN + about(2) + SCAN,
+    'records-last': head() + record(31) * (ROOM + 1) + frame(0x04, 0x60, low=31) * 4 + about(-1) + frame(0x04, 0x60, low=31),
+    'records-sparse': head(density=60) + b''.join(record(f) for f in range(32)) + b''.join(frame(0x04, 0x60, low=f) for f in range(0, 32, 3)),
+    'records-changed': head(MOST_ROOM) + record(5) + changed(3, 0, 16) + DUMP + changed(2, 0, 0) + SCAN + frame(0x04, 0x60, low=5) + about(0) + SCAN,
     'records-none': head(NULLS) + records(0) + SCAN + record(0) + word(0x30, 1) + pulses(0x40, 1) + value(0, 1) + elapsed(1),
     'kept-select': head() + kept('SELECT', 1) + kept('SELECT_MASTER', 31) + kept('SELECT_AGE', HOLD) + frame(0x10, 0x20, master=31)
                    + kept('SELECT_AGE', HOLD + 1) + kept('SELECT', 1) + SCAN,

@@ -36,7 +36,7 @@ extern "C" {
 /* Of this interface: one more where a call changes, or the meaning of what it takes. Where a unit's memory changes, OSTURDAM_LAYOUT is
  * another, and a unit that was stored in another layout is OSTURDAM_NOT_CONFIGURED. A program holds this header to its library once, before
  * its first unit: osturdam_layout() == OSTURDAM_LAYOUT. */
-#define OSTURDAM_VERSION 2
+#define OSTURDAM_VERSION 3
 
 /* ---- limits, lengths, and where a unit's parts lie in its memory */
 
@@ -54,13 +54,12 @@ enum {
     OSTURDAM_VALUES = 16,           /* the most values in a record */
     OSTURDAM_ROOM = 32,             /* the most records in a file */
     OSTURDAM_RECORD_HEAD = 6,       /* a record's characters before its values: event and clock */
-    OSTURDAM_RECORD_SLOT = 38,      /* from one record of a file to the next */
-    OSTURDAM_RECORDS = 38912,       /* characters of records */
+    OSTURDAM_RECORDS = 38912,       /* the most characters of records that a configuration asks for */
     OSTURDAM_HOLD_MS = 5000,        /* for how long a select or a write is held */
     OSTURDAM_SILENT_MS = 60000,     /* after how long with no stretch a port is silent */
     OSTURDAM_CONFIG = 836,          /* characters of a configuration, which lies from AT_NUMBER on in a unit's memory */
     OSTURDAM_UNIT = 2474,           /* characters of a unit's memory */
-    OSTURDAM_LAYOUT = 1,            /* the number of this layout, which stands first in the memory */
+    OSTURDAM_LAYOUT = 2,            /* the number of this layout, which stands first in the memory */
     OSTURDAM_AT_LAYOUT = 0,
     OSTURDAM_AT_NUMBER = 2,
     OSTURDAM_AT_LENGTH = 4,
@@ -217,9 +216,10 @@ struct osturdam_unit {
     uint8_t counts[OSTURDAM_FILES];         /* how many records each file holds */
 };
 
-/* What a unit's caller lends. Records lie in slots: record i of file f, the oldest being 0, from character
- * (f * OSTURDAM_ROOM + i) * OSTURDAM_RECORD_SLOT on. Fewer characters of records than OSTURDAM_RECORDS are OSTURDAM_NOT_CONFIGURED, and so is
- * a block of another length than the configuration's; what lies behind OSTURDAM_RECORDS is never touched. */
+/* What a unit's caller lends. Each equipped file has room for OSTURDAM_ROOM records of its own length, one behind the other with the oldest
+ * first; the files lie by their numbers with nothing between them, and one that is not equipped takes nothing (osturdam_record_place). Fewer
+ * characters of records than the configuration asks for (osturdam_room_of) are OSTURDAM_NOT_CONFIGURED, and so is a block of another length
+ * than its own; of more, what lies behind those that it asks for is never touched. */
 struct osturdam_lent {
     struct osturdam_unit *unit;
     uint8_t *block;                         /* the parameter block */
@@ -228,11 +228,11 @@ struct osturdam_lent {
     uint64_t room;                          /* characters of records */
 };
 
-/* A unit that lies all together. */
+/* A unit that lies all together, whatever its configuration asks for. */
 struct osturdam_together {
     struct osturdam_unit unit;
     uint8_t block[OSTURDAM_BLOCK];          /* its first characters are the parameter block */
-    uint8_t records[OSTURDAM_RECORDS];
+    uint8_t records[OSTURDAM_RECORDS];      /* its first characters are the files */
 };
 
 /* What a stretch comes with: to be filled by the fields' names, the others 0, since fields may be added. */
@@ -263,6 +263,9 @@ uint16_t osturdam_check(uint16_t start, const uint8_t *chars, uint64_t count);
 
 /* 1 for a configuration that a unit can have, else 0. */
 uint8_t osturdam_valid(const uint8_t config[OSTURDAM_CONFIG]);
+
+/* How many characters of records a configuration asks for. */
+uint64_t osturdam_room(const uint8_t config[OSTURDAM_CONFIG]);
 
 void osturdam_fresh(uint8_t unit[OSTURDAM_UNIT], uint8_t *block, uint64_t length, const uint8_t config[OSTURDAM_CONFIG]);
 
@@ -382,6 +385,31 @@ static inline void osturdam_equip_file(struct osturdam_config *c, uint8_t file, 
     }
 }
 
+/* How long the records of a file are; 0 of a file that is not equipped. */
+static inline uint16_t osturdam_record_length(const struct osturdam_config *c, uint8_t file)
+{
+    return osturdam_has_file(c, file) ? (uint16_t)(OSTURDAM_RECORD_HEAD + 2 * osturdam_values_of(c, file)) : (uint16_t)0;
+}
+
+/* Where a record's characters start in what is lent for records: record 0 of a file is its oldest. */
+static inline uint64_t osturdam_record_place(const struct osturdam_config *c, uint8_t file, uint8_t record)
+{
+    uint64_t below = 0;
+    for (uint8_t f = 0; f < file; f++)
+        below += osturdam_record_length(c, f);
+    return OSTURDAM_ROOM * below + (uint64_t)record * osturdam_record_length(c, file);
+}
+
+/* How many characters of records a unit of it asks for: OSTURDAM_RECORDS at most, if it is valid. A program that sets them aside before it
+ * runs adds OSTURDAM_RECORDS_OF of each file. */
+static inline uint64_t osturdam_room_of(const struct osturdam_config *c)
+{
+    return osturdam_room((const uint8_t *)c);
+}
+
+/* What a file asks for whose records have so many values. */
+#define OSTURDAM_RECORDS_OF(values) (OSTURDAM_ROOM * (OSTURDAM_RECORD_HEAD + 2 * (values)))
+
 /* Whether a unit can have it: whether osturdam_begin makes a unit of it that takes events. Of all calls it alone needs much stack, as
  * much as a unit's memory has characters; where there is not so much, the first event tells as well. */
 static inline int osturdam_is_valid(const struct osturdam_config *c)
@@ -423,12 +451,6 @@ static inline void osturdam_put_count(struct osturdam_unit *u, uint8_t file, uin
 {
     if (file < OSTURDAM_FILES)
         u->counts[file] = count;
-}
-
-/* Where a record's characters start in what is lent for records: record 0 of a file is its oldest. */
-static inline uint64_t osturdam_record_place(uint8_t file, uint8_t record)
-{
-    return ((uint64_t)file * OSTURDAM_ROOM + record) * OSTURDAM_RECORD_SLOT;
 }
 
 /* How long the block of an ordinal of the fixed area is; 0 for any other. */

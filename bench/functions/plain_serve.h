@@ -6,7 +6,7 @@
 
 #include <stdbool.h>
 
-enum { HEAD = 7, LAST_MASTER = 31, DATA = OSTURDAM_REPLY - HEAD - 2 };
+enum { HEAD = 7, LAST_MASTER = 31, DATA = OSTURDAM_REPLY - HEAD - 2, SLOT = OSTURDAM_RECORD_HEAD + 2 * OSTURDAM_VALUES };
 
 typedef struct plain_config Config;
 typedef struct plain_unit Unit;
@@ -58,9 +58,10 @@ static inline unsigned most_sent(const Config *c, unsigned file, bool dump)
     return dump ? (DATA - 1) / record_size(c, file) : 1;
 }
 
+// Every file has slots of the longest record, so that it starts where its number says.
 static inline uint8_t *file_start(Unit *u, unsigned file)
 {
-    return u->records + file * OSTURDAM_ROOM * OSTURDAM_RECORD_SLOT;
+    return u->records + file * OSTURDAM_ROOM * SLOT;
 }
 
 #endif

@@ -51,6 +51,21 @@ static void refused(int n)
     ask(0x10, 0x10, "\x63", 1, 1, OSTURDAM_NOT_VALID);
 }
 
+// Where less is lent than the most that any unit asks for, every event sums what this one does.
+static void packed(int n)
+{
+    equip_files(n);
+    ask(0x10, 0x10, "\x63", 1, 1, OSTURDAM_NOT_VALID);
+}
+
+// In the last of so many files.
+static void last(int n)
+{
+    uint16_t given[OSTURDAM_VALUES] = {1, 2, 3, 4, 5, 6, 7, 8, 9, 10, 11, 12, 13, 14, 15, 65535};
+    equip_files(n);
+    expect("a record", store_record(&u, n - 1, 7, given, OSTURDAM_VALUES, 1), OSTURDAM_STORED);
+}
+
 int main(int argc, char **argv)
 {
     static const struct {
@@ -62,13 +77,15 @@ int main(int argc, char **argv)
                  {"table", table, 254},
                  {"dump", dump, OSTURDAM_ROOM},
                  {"store", one_more, OSTURDAM_ROOM - 1},
-                 {"refused", refused, OSTURDAM_ROOM}};
+                 {"refused", refused, OSTURDAM_ROOM},
+                 {"packed", packed, OSTURDAM_FILES},
+                 {"last", last, OSTURDAM_FILES}};
     int n = argc == 3 ? atoi(argv[2]) : -1;
     for (size_t i = 0; n >= 0 && i < sizeof kinds / sizeof kinds[0]; i++)
         if (strcmp(argv[1], kinds[i].name) == 0 && n <= kinds[i].most) {
             kinds[i].run(n);
             return 0;
         }
-    fprintf(stderr, "usage: growth points | analogs | table | dump | store | refused N\n");
+    fprintf(stderr, "usage: growth points | analogs | table | dump | store | refused | packed | last N\n");
     return 2;
 }

@@ -9,7 +9,7 @@ enum { NUMBER = 1234, STATUS = 0x30, TRIPS = 0x40, LOAD = 0x80, FILE = 0, TRIP_E
 
 static struct osturdam_config config;
 static struct kept kept;
-static struct osturdam_lent lent;
+static struct osturdam_lent lent = {.unit = &kept.unit, .records = kept.records, .room = sizeof kept.records}; /* no parameter block */
 static uint32_t until_trip = TRIP_MS;
 
 static void configure(void)
@@ -20,16 +20,15 @@ static void configure(void)
     osturdam_equip_input(&config, LOAD);
     osturdam_equip_output(&config, 0);
     osturdam_equip_output(&config, 1);
-    osturdam_equip_file(&config, FILE, 1);
+    osturdam_equip_file(&config, FILE, TRIP_VALUES);
 }
 
 /* A unit that was kept goes on, unless the image has another configuration by now. Nobody knows how long it was without power: a select or
  * a write that waited has waited too long. */
 static void wake(void)
 {
-    int found = keep_wake(&kept) && memcmp(&kept.unit.unit.config, &config, sizeof config) == 0;
-    lent = osturdam_lend(&kept.unit, &config);
-    const struct osturdam_unit *u = &kept.unit.unit;
+    int found = keep_wake(&kept) && memcmp(&kept.unit.config, &config, sizeof config) == 0;
+    const struct osturdam_unit *u = &kept.unit;
     int waits = osturdam_kept_of(u, OSTURDAM_SELECT) == OSTURDAM_HELD || osturdam_kept_of(u, OSTURDAM_WRITE) == OSTURDAM_WAITS;
     if (found && osturdam_wait(&lent, waits ? OSTURDAM_HOLD_MS + 1 : 0) == OSTURDAM_DONE)
         return;
@@ -85,6 +84,8 @@ int main(void)
     if (osturdam_layout() != OSTURDAM_LAYOUT)
         return 1; /* a library of another layout was linked */
     configure();
+    if (osturdam_room_of(&config) > sizeof kept.records)
+        return 1; /* another file was equipped, and no room set aside */
     board_start();
     wake();
     for (;;) {

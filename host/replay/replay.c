@@ -258,6 +258,8 @@ static int call(enum line line)
     int answer = measured(line);
     if (line != FRESH && answer != character())
         return failed("another answer: ", (uint32_t)answer);
+    if (line == VALID && osturdam_room_of(&config) != value())
+        return failed("another room: ", (uint32_t)osturdam_room_of(&config));
     if (line == STRETCH && stretched() != 0)
         return 1;
     if (line != VALID && changes(0) != 0)
@@ -269,7 +271,7 @@ static int call(enum line line)
 
 static int opened(void)
 {
-    static const char mark[] = "osturdam recording 1\n";
+    static const char mark[] = "osturdam recording 2\n";
     for (const char *p = mark; *p != 0; p++)
         if (character() != (uint8_t)*p)
             return failed("no recording of this kind; it differs at ", (uint32_t)(p - mark));

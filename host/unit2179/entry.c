@@ -37,7 +37,7 @@ size_t entry_write(uint8_t entry[ENTRY_MOST], uint64_t history, uint64_t number,
                    const struct osturdam_together *is)
 {
     struct image_order order;
-    image_order(&order);
+    image_order(&order, &is->unit.config);
     memcpy(entry, "EN", 2);
     uint8_t *to = put_number(entry + 6, number, 8);
     for (size_t i = 0; i < IMAGE_REGIONS; i++)

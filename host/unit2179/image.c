@@ -5,6 +5,8 @@
 #include <stdio.h>
 #include <string.h>
 
+#include "older.h"
+
 /* Each part's name, and where it lies; the unit's regions first. */
 /* clang-format off */
 #define PARTS(PART)                                                                                                     \
@@ -54,26 +56,40 @@ uint64_t check_of(uint64_t begun, const uint8_t *chars, size_t many)
     return check;
 }
 
-void image_order(struct image_order *order)
+static bool is_records(const struct region *part)
 {
-    order->many = IMAGE_PARTS;
+    return part->at == offsetof(struct kept, all.records);
+}
+
+void image_order(struct image_order *order, const struct osturdam_config *config)
+{
+    *order = (struct image_order){.many = IMAGE_PARTS};
     memcpy(order->parts, parts, sizeof parts);
+    for (struct region *p = order->parts; p < order->parts + IMAGE_PARTS; p++) {
+        if (is_records(p))
+            p->many = (size_t)osturdam_room_of(config);
+    }
 }
 
 static const char title[8] = {'u', 'n', 'i', 't', '2', '1', '7', '9'};
 
-void image_write(uint8_t image[IMAGE], const struct kept *kept)
+size_t image_write(uint8_t image[IMAGE], const struct kept *kept)
 {
+    struct image_order order;
+    image_order(&order, &kept->all.unit.config);
     memset(image, 0, IMAGE);
     memcpy(image, title, sizeof title);
-    uint8_t *at = put_number(put_number(image + sizeof title, IMAGE_VERSION, 2), IMAGE, 4);
-    for (const struct region *p = parts; p < parts + IMAGE_PARTS; p++) {
+    uint8_t *at = put_number(image + sizeof title, IMAGE_VERSION, 2) + 4; /* the length comes last */
+    for (const struct region *p = order.parts; p < order.parts + order.many; p++) {
         memcpy(at, p->name, strlen(p->name));
         at = put_number(at + IMAGE_NAME, p->many, 4);
         memcpy(at, (const uint8_t *)kept + p->at, p->many);
         at += p->many;
     }
-    put_number(at, check_of(0, image, IMAGE - IMAGE_CHECK), IMAGE_CHECK);
+    size_t checked = (size_t)(at - image);
+    put_number(image + IMAGE_TITLE - 4, checked + IMAGE_CHECK, 4);
+    put_number(at, check_of(0, image, checked), IMAGE_CHECK);
+    return checked + IMAGE_CHECK;
 }
 
 struct reading {
@@ -112,11 +128,12 @@ static const char *take(struct reading *r, const char *name, size_t many)
         return told("it has a part that no unit has, '%.*s'", text_in(name), name);
     if (r->taken[i])
         return told("it has the part '%s' twice", parts[i].name);
-    if (many != parts[i].many || many > (size_t)(r->end - r->at))
+    bool fewer = is_records(&parts[i]) && !r->order->older; /* how many there are to be is known when the configuration is */
+    if ((fewer ? many > parts[i].many : many != parts[i].many) || many > (size_t)(r->end - r->at))
         return told("its part '%s' has not %zu characters", parts[i].name, parts[i].many);
     memcpy((uint8_t *)&whole + parts[i].at, r->at, many);
     r->taken[i] = true;
-    r->order->parts[r->order->many++] = parts[i];
+    r->order->parts[r->order->many++] = (struct region){parts[i].name, parts[i].at, many};
     r->at += many;
     return NULL;
 }
@@ -140,9 +157,20 @@ static const char *take_version_1(struct reading *r)
     static const struct {
         const char *name;
         size_t many;
-    } old[] = {{"config.number", 2}, {"config.length", 2},  {"config.inputs", 256}, {"config.outputs", 256}, {"config.calculations", 256},
-               {"config.files", 32}, {"config.values", 32}, {"numbers", 52},        {"words", 512},          {"results", 512},
-               {"fixed", 528},       {"block", 512},        {"records", 38912},     {"counts", 32}};
+    } old[] = {{"config.number", 2},
+               {"config.length", 2},
+               {"config.inputs", 256},
+               {"config.outputs", 256},
+               {"config.calculations", 256},
+               {"config.files", 32},
+               {"config.values", 32},
+               {"numbers", 52},
+               {"words", 512},
+               {"results", 512},
+               {"fixed", 528},
+               {"block", 512},
+               {"records", OLDER_RECORDS},
+               {"counts", 32}};
     const char *wrong = NULL;
     for (size_t i = 0; !wrong && i < sizeof old / sizeof *old; i++)
         wrong = take(r, old[i].name, old[i].many);
@@ -163,6 +191,23 @@ static const char *damage(const uint8_t *image, size_t many)
     return NULL;
 }
 
+/* What is wrong with the unit that was read, where another was expected. */
+static const char *misfit(const struct image_order *order, const struct osturdam_unit *expected)
+{
+    const struct osturdam_unit *is = &whole.all.unit;
+    uint16_t layout = order->older ? OLDER_LAYOUT : OSTURDAM_LAYOUT;
+    size_t asked = (size_t)osturdam_room_of(&expected->config);
+    if (osturdam_word_at(is->layout) != layout)
+        return told("it is of a unit with the layout %u", osturdam_word_at(is->layout));
+    if (memcmp(&is->config, &expected->config, sizeof is->config) != 0)
+        return "it is of a unit with another configuration";
+    for (const struct region *p = order->parts; p < order->parts + order->many; p++) {
+        if (is_records(p) && !order->older && p->many != asked)
+            return told("its part '%s' has not %zu characters", p->name, asked);
+    }
+    return NULL;
+}
+
 const char *image_read(const uint8_t *image, size_t many, struct kept *kept, struct image_order *order)
 {
     const char *wrong = damage(image, many);
@@ -172,17 +217,15 @@ const char *image_read(const uint8_t *image, size_t many, struct kept *kept, str
     if (version < 1 || version > IMAGE_VERSION)
         return told("it is of version %u", (unsigned)version);
     struct reading r = {.at = image + IMAGE_TITLE, .end = image + many - IMAGE_CHECK, .order = order};
-    order->many = 0;
+    *order = (struct image_order){.older = version <= OLDER_VERSION};
     whole = *kept;
     memset(&whole.all.unit.config, 0, sizeof whole.all.unit.config);
+    if (order->older)
+        osturdam_word_to(whole.all.unit.layout, OLDER_LAYOUT);
     wrong = version == 1 ? take_version_1(&r) : take_parts(&r);
-    if (wrong)
-        return wrong;
-    const struct osturdam_unit *is = &whole.all.unit, *expected = &kept->all.unit;
-    if (memcmp(is->layout, expected->layout, sizeof is->layout) != 0)
-        return told("it is of a unit with the layout %u", osturdam_word_at(is->layout));
-    if (memcmp(&is->config, &expected->config, sizeof is->config) != 0)
-        return "it is of a unit with another configuration";
-    *kept = whole;
-    return NULL;
+    if (!wrong)
+        wrong = misfit(order, &kept->all.unit);
+    if (!wrong)
+        *kept = whole;
+    return wrong;
 }

@@ -32,7 +32,7 @@ static bool put(void *context)
 static bool make(void *context)
 {
     struct keeper *k = context;
-    bool good = store_whole(k->store, k->image) && journal_clear(k->store, 1 - k->journal, k->filled);
+    bool good = store_whole(k->store, k->image, k->length) && journal_clear(k->store, 1 - k->journal, k->filled);
     k->make_error = errno;
     return good;
 }
@@ -55,9 +55,9 @@ bool keeper_begin(struct keeper *k, struct store *store)
     k->used = k->filled = JOURNAL_HEAD;
     if (!journals_open(store))
         return false;
-    image_write(k->image, &k->kept);
+    k->length = image_write(k->image, &k->kept);
     /* the journals are emptied last: what they have is in the state file then */
-    if (!store_whole(store, k->image) || !journals_clear(store) || !worker_begin(&k->putting) || !worker_begin(&k->making))
+    if (!store_whole(store, k->image, k->length) || !journals_clear(store) || !worker_begin(&k->putting) || !worker_begin(&k->making))
         return lost(k, errno);
     return true;
 }
@@ -72,7 +72,7 @@ bool keeper_differs(const struct keeper *k, const struct osturdam_together *all)
 /* The state file is made of all that is kept, and the journal before this one is emptied. */
 static void make_whole(struct keeper *k)
 {
-    image_write(k->image, &k->kept);
+    k->length = image_write(k->image, &k->kept);
     worker_do(&k->making, make, k);
 }
 
@@ -180,8 +180,8 @@ bool keeper_end(struct keeper *k, const struct osturdam_together *all)
     enter(k, all, true);
     /* an entry first: where the disk is slow, there may be no time for more */
     bool entered = !held && k->used + k->many <= JOURNAL && put(k);
-    image_write(k->image, &k->kept);
-    if (store_whole(k->store, k->image))
+    k->length = image_write(k->image, &k->kept);
+    if (store_whole(k->store, k->image, k->length))
         return true;
     complain(&k->store->at, "the state file cannot be made anew: %s; changes are kept in its journal", strerror(errno));
     return entered || lost(k, k->put_error);

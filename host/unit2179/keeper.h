@@ -24,6 +24,7 @@ struct keeper {
     int put_error;
     /* what `making` works on */
     uint8_t image[IMAGE];
+    size_t length; /* of the image */
     size_t filled; /* of the other journal, which is emptied once the state file is made; JOURNAL_HEAD: it is empty */
     int make_error;
     int64_t again; /* when making is tried again, after it failed */

@@ -10,6 +10,8 @@
 #include <sys/stat.h>
 #include <unistd.h>
 
+#include "older.h"
+
 static char *joined(const char *path, const char *ending)
 {
     size_t room = strlen(path) + strlen(ending) + 1;
@@ -118,6 +120,16 @@ bool write_at(int file, size_t at, const uint8_t *chars, size_t many)
     return true;
 }
 
+/* Entries are taken as the file before them has it; no event changes the configuration, by which records are found. */
+static const char *replayed(struct store *store, const struct image_order *order, struct kept *kept)
+{
+    struct osturdam_config config = kept->all.unit.config;
+    const char *wrong = journals_replay(store, order, kept);
+    if (!wrong && memcmp(&config, &kept->all.unit.config, sizeof config) != 0)
+        wrong = "its journal has a change that no unit has";
+    return wrong;
+}
+
 bool store_load(struct store *store, struct kept *kept, bool *found)
 {
     static uint8_t room[IMAGE_MOST];
@@ -132,7 +144,9 @@ bool store_load(struct store *store, struct kept *kept, bool *found)
     if (file >= 0)
         close(file);
     if (!wrong)
-        wrong = journals_replay(store, &order, kept);
+        wrong = replayed(store, &order, kept);
+    if (!wrong && order.older)
+        older_repack(kept);
     if (!wrong && osturdam_wait(&lent, 0) == OSTURDAM_NOT_CONFIGURED)
         wrong = "it has a number that no unit keeps";
     if (wrong)
@@ -150,9 +164,9 @@ static bool synced(const char *path)
 }
 
 /* Writes a file that is open, and closes it. */
-static bool filled(int file, const uint8_t image[IMAGE])
+static bool filled(int file, const uint8_t *image, size_t many)
 {
-    bool good = write_at(file, 0, image, IMAGE) && fsync(file) == 0;
+    bool good = write_at(file, 0, image, many) && fsync(file) == 0;
     int error = errno;
     if (close(file) != 0 && good)
         return false;
@@ -162,14 +176,14 @@ static bool filled(int file, const uint8_t image[IMAGE])
 
 /* The new file is on the disk before it takes the old one's name, and the name before the caller goes on. What a process that was killed
  * left half written is removed, and so is a link that someone laid there. */
-bool store_whole(const struct store *store, const uint8_t image[IMAGE])
+bool store_whole(const struct store *store, const uint8_t *image, size_t many)
 {
     if (unlink(store->fresh) != 0 && errno != ENOENT)
         return false;
     int file = open(store->fresh, O_WRONLY | O_CREAT | O_EXCL | O_CLOEXEC | O_NOFOLLOW, 0644);
     if (file < 0)
         return false;
-    if (filled(file, image) && rename(store->fresh, store->path) == 0)
+    if (filled(file, image, many) && rename(store->fresh, store->path) == 0)
         return synced(store->folder);
     int error = errno;
     unlink(store->fresh); /* on a full disk it would take the last room */

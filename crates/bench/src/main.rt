@@ -47,12 +47,12 @@ fn run(unit: &mut [u8; UNIT], records: &mut [u8]) {
     flow::write_out(&shown, flow);
 }
 
-// The unit is fresh, and has no parameters.
+// The unit is fresh, and has neither parameters nor files.
 fn main() {
     let config = answers::configured();
     let mut unit = [0u8; UNIT];
     let mut block = [0u8; 0];
-    let mut records = [0u8; 38912];
+    let mut records = [0u8; 0];
     unit::fresh(&mut unit, &mut block, &config);
     run(&mut unit, &mut records);
 }

@@ -4,3 +4,4 @@ pub mod ValidLaws
 pub mod Unique
 pub mod RunLaws
 pub mod Demand3
+pub mod RoomLaws

@@ -20,6 +20,7 @@ ghost use Rattle.checkword.specs.Check.{checkFrom};
 ghost use Rattle.model.specs.Config.{validOf};
 ghost use Rattle.model.specs.Event.{elapsed, setWord, setValue, pulses, store, local};
 ghost use Rattle.layout.specs.Unit.{layoutNumber, configGiven};
+ghost use Rattle.layout.specs.Records.{roomOf};
 ghost use Rattle.layout.specs.Kept.{ownedOf};
 ghost use Rattle.unit.specs.Fresh.{FreshPromise};
 ghost use Rattle.board.specs.Told.{TurnPromise, AnswerPromise};
@@ -54,6 +55,14 @@ pub extern "C" fn osturdam_valid(config: &[u8; CONFIG]) -> u8
         return 1;
     }
     0
+}
+
+// How many characters of records the owner of a unit of a configuration is to lend.
+#[no_mangle]
+pub extern "C" fn osturdam_room(config: &[u8; CONFIG]) -> u64
+    ensures { λ r. ⌜ r ≡ roomOf (configGiven (now (config .entry))) ⌝ }
+{
+    layout::room_asked(config) as u64
 }
 
 #[no_mangle]

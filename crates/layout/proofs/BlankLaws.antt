@@ -85,7 +85,7 @@ blank-long cs =
     ∙ length-put (replicate unitLong 0) (regionStart layoutRegion) (word layoutNumber) ∙ length-replicate {A = ℕ} unitLong 0
 
 -- CONFIG and UNIT of src/lib.rt are these numbers
-pub blank-laid : (cs : List ℕ) {u v : List ℕ} → length cs ≡ 836 → u ≡ put (replicate 2474 0) 0 (word 1) → v ≡ put u 2 (part cs 0 836) → v ≡ blankUnit cs
+pub blank-laid : (cs : List ℕ) {u v : List ℕ} → length cs ≡ 836 → u ≡ put (replicate 2474 0) 0 (word layoutNumber) → v ≡ put u 2 (part cs 0 836) → v ≡ blankUnit cs
 unfolding blankUnit startIn unitSizes
 blank-laid cs l e f = f ∙ (λ i. put (e i) 2 (part-whole cs 836 (sym l) i))
 
@@ -93,9 +93,9 @@ module _ (cs : List ℕ) (long : length cs ≡ configLong) where
   front : regionIn unitSizes (blankUnit cs) layoutRegion ≡ word layoutNumber
   unfolding blankUnit regionIn unitSizes startIn
   front =
-      take-put 2 (put (replicate 2474 0) 0 (word 1)) 2 cs (lit≤ tt)
-      ∙ ap (λ (n : ℕ). take n (put (replicate 2474 0) 0 (word 1))) (sym (length-word 1))
-      ∙ take-put-front (replicate 2474 0) (word 1) (omega (arith, length-word 1, length-replicate {A = ℕ} 2474 0))
+      take-put 2 (put (replicate 2474 0) 0 (word layoutNumber)) 2 cs (lit≤ tt)
+      ∙ ap (λ (n : ℕ). take n (put (replicate 2474 0) 0 (word layoutNumber))) (sym (length-word layoutNumber))
+      ∙ take-put-front (replicate 2474 0) (word layoutNumber) (omega (arith, length-word layoutNumber, length-replicate {A = ℕ} 2474 0))
 
   inner : (k : ℕ) → k < length unitSizes → k < length (0 ∷ configSizes) → regionStart k ≡ 2 + startIn (0 ∷ configSizes) k → getD unitSizes k 0 ≡ getD (0 ∷ configSizes) k 0
       → startIn (0 ∷ configSizes) k + getD (0 ∷ configSizes) k 0 ≤ configLong → regionStart numberRegion ≡ 2 → 2 + configLong ≤ unitLong

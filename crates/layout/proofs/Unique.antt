@@ -36,6 +36,7 @@ use Rattle.layout.proofs.port.keep_port.Reads as keep-port
 use Rattle.layout.proofs.records.slots.Reads as slots
 use Rattle.layout.proofs.records.base_of.Reads as base-of
 use Rattle.layout.proofs.records.room_of.Reads as room-of
+use Rattle.layout.proofs.records.room_asked.Reads as room-asked
 use Rattle.layout.proofs.select.hold_kept.Reads as hold-kept
 use Rattle.layout.proofs.select.keep_hold.Reads as keep-hold
 use Rattle.layout.proofs.status.configure_in.Reads as configure-in
@@ -97,6 +98,9 @@ one-base-of κ a x y s t p q = p .0 ∙ sym (q .0)
 
 pub one-room-of : One room-of.Post (λ κ r s. r)
 one-room-of κ a x y s t p q = p ∙ sym q
+
+pub one-room-asked : One room-asked.Post (λ κ r s. r)
+one-room-asked κ a x y s t p q = p ∙ sym q
 
 pub one-count-of : One count-of.Post (λ κ r s. r)
 one-count-of κ a x y s t p q = p ∙ sym q

@@ -10,7 +10,7 @@ use Rattle.model.specs.State.{Areas, Files, Inner, State}
 use Rattle.model.specs.declared.Core.{Core}
 use Rattle.model.specs.declared.Memory.{Memory}
 use Rattle.model.specs.declared.Port.{Port}
-use Rattle.layout.specs.Records.{filesIn, roomOf}
+use Rattle.layout.specs.Records.{Layout, packed, filesLaid, filesIn, roomOf}
 use Rattle.layout.specs.Numbers.{coreIn, memoryIn, portIn, readable}
 use Rattle.layout.specs.Unit.{Unit, layoutNumber, unitIn, configIn, numbersIn}
 
@@ -35,13 +35,16 @@ areasOf words results fixed block = record { words = words; values = results; fi
 abbrev pub innerOf : Core → Areas → Memory → Files → Inner
 innerOf core areas memory fs = record { core = core; areas = areas; history = record { memory = memory; files = fs } }
 
--- the records of the files are those that stand in the lent characters
-abbrev pub stateOf : Config → Kept → State
-stateOf c k =
+-- the records of the files are those that stand in the lent characters, as a layout has them
+abbrev pub stateLaid : Layout → Config → Kept → State
+stateLaid l c k =
     record {
-      inner = innerOf (k .core) (areasOf (k .words) (k .results) (k .fixed) (k .block)) (k .memory) (filesIn (c .values) (k .area) (k .counts));
+      inner = innerOf (k .core) (areasOf (k .words) (k .results) (k .fixed) (k .block)) (k .memory) (filesLaid l (c .values) (k .area) (k .counts));
       port = k .port;
     }
+
+abbrev pub stateOf : Config → Kept → State
+stateOf c k = stateLaid (packed c) c k
 
 -- ---- what is lent
 
@@ -54,7 +57,7 @@ areasIn u block = areasBy (unitIn u) block
 
 -- the records in the lent characters
 abbrev pub filesHeld : List ℕ → List ℕ → Files
-filesHeld u area = filesIn (configIn u .values) area (unitIn u .counts)
+filesHeld u area = filesIn (configIn u) area (unitIn u .counts)
 
 -- all that is kept but the port: the memory, the parameter block, and the records or the characters of records
 abbrev pub innerBy : List ℕ → List ℕ → Files → Inner

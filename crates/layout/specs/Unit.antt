@@ -80,7 +80,7 @@ configLong = startIn configSizes (length configSizes)
 
 -- the number of this layout
 abbrev pub layoutNumber : ℕ
-layoutNumber = 1
+layoutNumber = 2
 
 unfoldable pub placesOf : Places
 placesOf =

@@ -7,7 +7,7 @@ use super::equipment::config_judged;
 use super::files::files_judged;
 use super::memory::memory_judged;
 use super::parts::layout_of;
-use super::records::room_of;
+use super::records::has_room;
 ghost use mathlib.Core.Path.{_≡_};
 ghost use Rattle.layout.specs.Judged.{fitsIn};
 
@@ -19,7 +19,7 @@ pub fn fits<'a>(unit: &'a [u8; UNIT], lent: usize, room: usize) -> bool
 {
     chars::told_long(unit);
     layout_of(unit) == CURRENT
-        && (room_of(unit) <= room
-            && (core_judged(unit)
-                && (config_judged(unit, lent) && (files_judged(unit) && memory_judged(unit)))))
+        && (core_judged(unit)
+            && (config_judged(unit, lent)
+                && (files_judged(unit) && (has_room(unit, room) && memory_judged(unit)))))
 }

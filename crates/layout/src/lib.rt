@@ -44,6 +44,7 @@ pub use port::keep_port;
 pub use port::mark_at;
 pub use port::port_in;
 pub use records::base_of;
+pub use records::room_asked;
 pub use records::room_of;
 pub use records::slots;
 pub use select::hold_kept;
@@ -62,7 +63,7 @@ ghost use Rattle.layout.specs.Unit.{placesOf};
 // The number of this layout.
 const LAYOUT: usize = 0;
 
-pub const CURRENT: u16 = 1;
+pub const CURRENT: u16 = 2;
 
 // The configuration.
 const NUMBER: usize = LAYOUT + 2;

@@ -2,15 +2,16 @@
 use mathlib.Core.Path.{refl, _∙_}
 use Prim.Native.Nat.{ℕ}
 use mathlib.Core.List.{List}
+use Rattle.model.specs.Config.{Config}
 use Rattle.model.specs.Change.{stays}
 use Rattle.history.specs.Change.{areaAfter, countsAfter}
 use Rattle.layout.specs.Kept.{Steady}
 use Rattle.serve.specs.Changes.{Shifted}
 
 -- nothing is changed
-pub still : (area held : List ℕ) → Shifted stays area held area held
+pub still : (c : Config) (area held : List ℕ) → Shifted c stays area held area held
 unfolding areaAfter countsAfter
-still area held = record { moved = refl; counted = refl }
+still c area held = record { moved = refl; counted = refl }
 
 pub steady-same : (u : List ℕ) → Steady u u
 steady-same u = record { layout = refl; config = refl; long = refl }

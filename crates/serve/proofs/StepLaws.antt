@@ -123,17 +123,17 @@ pub run-held : (k : Core) (a : Areas) (table : List ℕ) (h : Hold) (q : Request
 run-held k a table h q {r = r} w = by-bool (leaves (r .outcome)) (λ e. rw e (sym (run-leaves k a table h q w e))) (λ e. rw e)
 
 -- a step that leaves the files
-pub acted-still : {m : Stepped} {a : Areas} {fs : Files} {p : Port} {ls area held entry exit : List ℕ} {r : Step} → m .change ≡ stays → StepPromise m a p ls entry exit r
-    → StepInPromise m a fs fs p ls area held area held entry exit r
+pub acted-still : {c : Config} {m : Stepped} {a : Areas} {fs : Files} {p : Port} {ls area held entry exit : List ℕ} {r : Step} → m .change ≡ stays → StepPromise m a p ls entry exit r
+    → StepInPromise c m a fs fs p ls area held area held entry exit r
 unfolding applied
-acted-still {area = area} {held} e w = record { acts = w; files = rw e refl; changed = rw e (still area held) }
+acted-still {c} {area = area} {held} e w = record { acts = w; files = rw e refl; changed = rw e (still c area held) }
 
 pub alone-stays : (i : Inner) (p : StepOf) {m : Stepped} → m ≡ alone i p → m .change ≡ stays
 unfolding alone
 alone-stays i p e = rw e
 
 -- what was made, and then only numbers written
-pub makes-renumbered : (v w block values : List ℕ) {m : Made} {mark : Mark} {p : Port} {ls area held area′ entry exit : List ℕ} {r : MadeOf} → NumbersOnly v w
-    → MadeInPromise m mark (areasIn v block) (filesIn values area′ (unitIn v .counts)) p ls area held area′ (unitIn v .counts) entry exit r
-    → MadeInPromise m mark (areasIn w block) (filesIn values area′ (unitIn w .counts)) p ls area held area′ (unitIn w .counts) entry exit r
-makes-renumbered v w block values n h = rw (unshifted-numbers v w n .counts, numbers-kept v block w n) h
+pub makes-renumbered : (c : Config) (v w block : List ℕ) {m : Made} {mark : Mark} {p : Port} {ls area held area′ entry exit : List ℕ} {r : MadeOf} → NumbersOnly v w
+    → MadeInPromise c m mark (areasIn v block) (filesIn c area′ (unitIn v .counts)) p ls area held area′ (unitIn v .counts) entry exit r
+    → MadeInPromise c m mark (areasIn w block) (filesIn c area′ (unitIn w .counts)) p ls area held area′ (unitIn w .counts) entry exit r
+makes-renumbered c v w block n h = rw (unshifted-numbers v w n .counts, numbers-kept v block w n) h

@@ -53,20 +53,20 @@ frame-data s f h b = let n : length s - 8 ≡ f .count = omega (arith, heard-who
 module _ (c : Config) (i : Inner) (s : List ℕ) (mark : Mark) (p : Port) {area held entry : List ℕ} {x : MadeOf} where
   module _ {ks : List ℕ} (k : Written (i .core) (i .history .memory) p ks) where
     pub judged-broken : heardOf s ≡ Broken → x ≡ record { outcome = NotWhole; action = Rest; sent = 0 }
-        → MadeInPromise (judged c i s (heardOf s)) mark (i .areas) (i .history .files) p ks area held area held entry entry x
+        → MadeInPromise c (judged c i s (heardOf s)) mark (i .areas) (i .history .files) p ks area held area held entry entry x
     unfolding judged quiet
-    judged-broken h e = rw h (record { makes = makes-quiet i mark entry NotWhole e k; changed = still area held })
+    judged-broken h e = rw h (record { makes = makes-quiet i mark entry NotWhole e k; changed = still c area held })
 
     pub judged-wrong : heardOf s ≡ Wrong → x ≡ record { outcome = CheckWrong; action = Rest; sent = 0 }
-        → MadeInPromise (judged c i s (heardOf s)) mark (i .areas) (i .history .files) p ks area held area held entry entry x
+        → MadeInPromise c (judged c i s (heardOf s)) mark (i .areas) (i .history .files) p ks area held area held entry entry x
     unfolding judged quiet
-    judged-wrong h e = rw h (record { makes = makes-quiet i mark entry CheckWrong e k; changed = still area held })
+    judged-wrong h e = rw h (record { makes = makes-quiet i mark entry CheckWrong e k; changed = still c area held })
 
   module _ (f : Frame) {body : List ℕ} {to : ℕ} (h : heardOf s ≡ Whole f) (b : body ≡ part s 6 (length s - 8)) (u : to ≡ unitOf (f .address)) where
     -- for this unit
     pub judged-own : {a : Areas} {fs : Files} {ls area′ held′ exit : List ℕ} → to ≡ c .unit
-        → MadeInPromise (served c i (asked f body)) mark a fs (portHeardBy p (shortestFrame + f .count) (x .outcome)) ls area held area′ held′ entry exit x
-        → MadeInPromise (judged c i s (heardOf s)) mark a fs (portHeard p s (x .outcome)) ls area held area′ held′ entry exit x
+        → MadeInPromise c (served c i (asked f body)) mark a fs (portHeardBy p (shortestFrame + f .count) (x .outcome)) ls area held area′ held′ entry exit x
+        → MadeInPromise c (judged c i s (heardOf s)) mark a fs (portHeard p s (x .outcome)) ls area held area′ held′ entry exit x
     unfolding judged framed requestIn
     judged-own t w =
         rw (h, eq-eqb (unitOf (f .address)) (c .unit) (sym u ∙ t), ← frame-data s f h b, ← (heard-as p s (x .outcome)), heard-whole s f h .count) w
@@ -74,20 +74,20 @@ module _ (c : Config) (i : Inner) (s : List ℕ) (mark : Mark) (p : Port) {area 
     -- for all
     pub judged-all : {a : Areas} {fs : Files} {ls : List ℕ} → (to ≡ c .unit → ⊥) → to ≡ 0x7FF
         → MadePromise (broadcastMade i (broadcastOf c (i .core) (i .areas) (asked f body))) mark a fs p ls entry entry x
-        → MadeInPromise (judged c i s (heardOf s)) mark a fs p ls area held area held entry entry x
+        → MadeInPromise c (judged c i s (heardOf s)) mark a fs p ls area held area held entry entry x
     unfolding judged framed requestIn broadcastMade quiet
     judged-all n t w =
         rw (h, ne-eqb (unitOf (f .address)) (c .unit) (λ e. n (u ∙ e)), eq-eqb (unitOf (f .address)) broadcastUnit (sym u ∙ t), ← frame-data s f h b)
-        (record { makes = w; changed = still area held })
+        (record { makes = w; changed = still c area held })
 
     -- for another
     pub judged-other : {ks : List ℕ} → Written (i .core) (i .history .memory) p ks → (to ≡ c .unit → ⊥) → (to ≡ 0x7FF → ⊥)
         → x ≡ record { outcome = OtherUnit; action = Rest; sent = 0 }
-        → MadeInPromise (judged c i s (heardOf s)) mark (i .areas) (i .history .files) p ks area held area held entry entry x
+        → MadeInPromise c (judged c i s (heardOf s)) mark (i .areas) (i .history .files) p ks area held area held entry entry x
     unfolding judged framed requestIn quiet
     judged-other k n m e =
         rw (h, ne-eqb (unitOf (f .address)) (c .unit) (λ e. n (u ∙ e)), ne-eqb (unitOf (f .address)) broadcastUnit (λ e. m (u ∙ e)))
-        (record { makes = makes-quiet i mark entry OtherUnit e k; changed = still area held })
+        (record { makes = makes-quiet i mark entry OtherUnit e k; changed = still c area held })
 
 -- ---- the entry
 
@@ -106,7 +106,7 @@ module _ (c : Config) (s : List ℕ) (k : Kept) (entry : List ℕ) {r : MadeOf} 
         small = omega arith;
         written = sym (put-none entry 0) ∙ sym (ap (λ (x : Result). put entry 0 (x .reply)) (w .0));
         next = sym (w .1);
-        changed = rw z (still (k .area) (k .counts));
+        changed = rw z (still c (k .area) (k .counts));
       })
 
   pub turns-short : length entry < longestReply
@@ -144,10 +144,10 @@ module _ (s : List ℕ) (x : Owned) (entry : List ℕ) {r : MadeOf} where
       }
 
 -- what was made of a stretch, and the port by its outcome
-makes-marked : (s : List ℕ) {m : Made} {mark : Mark} {a : Areas} {fs : Files} {p : Port} {ks ls area held area′ held′ entry exit : List ℕ} {r x : MadeOf}
-    → MadeInPromise m mark a fs p ks area held area′ held′ entry exit r
+makes-marked : (s : List ℕ) {c : Config} {m : Made} {mark : Mark} {a : Areas} {fs : Files} {p : Port} {ks ls area held area′ held′ entry exit : List ℕ} {r x : MadeOf}
+    → MadeInPromise c m mark a fs p ks area held area′ held′ entry exit r
     → (x ≡ r) × (ls ≡ putPort (portHeardBy (portIn ks) (length s) (r .outcome)) ks)
-    → MadeInPromise m mark a fs (portHeard p s (x .outcome)) ls area held area′ held′ entry exit x
+    → MadeInPromise c m mark a fs (portHeard p s (x .outcome)) ls area held area′ held′ entry exit x
 makes-marked s {p = p} {r = r} v n =
     let z = v .makes in
     let heard = ap (λ (p : Port). portHeardBy p (length s) (r .outcome)) (z .kept .means .port) ∙ heard-as p s (r .outcome) in
@@ -168,18 +168,18 @@ makes-marked s {p = p} {r = r} v n =
     })
 
 -- the same in a unit's memory, of which only numbers are written
-pub unit-marked : (s v w block values : List ℕ) {m : Made} {mark : Mark} {p : Port} {area held area′ entry exit : List ℕ} {r x : MadeOf}
-    → MadeInPromise m mark (areasIn v block) (filesIn values area′ (unitIn v .counts)) p (numbersIn v) area held area′ (unitIn v .counts) entry exit r
+pub unit-marked : (s : List ℕ) (c : Config) (v w block : List ℕ) {m : Made} {mark : Mark} {p : Port} {area held area′ entry exit : List ℕ} {r x : MadeOf}
+    → MadeInPromise c m mark (areasIn v block) (filesIn c area′ (unitIn v .counts)) p (numbersIn v) area held area′ (unitIn v .counts) entry exit r
     → (x ≡ r) × Renumbered v w (putPort (portHeardBy (portIn (numbersIn v)) (length s) (r .outcome)) (numbersIn v))
-    → MadeInPromise m mark (areasIn w block) (filesIn values area′ (unitIn w .counts)) (portHeard p s (x .outcome)) (numbersIn w) area held area′ (unitIn w .counts) entry exit x
-unit-marked s v w block values h n =
+    → MadeInPromise c m mark (areasIn w block) (filesIn c area′ (unitIn w .counts)) (portHeard p s (x .outcome)) (numbersIn w) area held area′ (unitIn w .counts) entry exit x
+unit-marked s c v w block h n =
     let only = numbers-only v w (n .1) in
     rw (unshifted-numbers v w only .counts, numbers-kept v block w only) (makes-marked s h (n .0, numbers-left v w (n .1)))
 
 pub stretch-made : (s : List ℕ) (x : Owned) (entry : List ℕ) (y : Owned) {exit : List ℕ} (m : MadeOf) → standing x ≡ true → longestReply ≤ length entry
     → fits (configIn (x .unit)) (stateOf (configIn (x .unit)) (keptIn x)) ≡ true
-    → MadeInPromise (judged (configIn (x .unit)) (stateOf (configIn (x .unit)) (keptIn x) .inner) s (heardOf s))
-    (portIn (numbersIn (x .unit)) .mark) (areasIn (y .unit) (y .block)) (filesIn (configIn (x .unit) .values) (y .area) (unitIn (y .unit) .counts)) (portHeard (portIn (numbersIn (x .unit))) s (m .outcome)) (numbersIn (y .unit))
+    → MadeInPromise (configIn (x .unit)) (judged (configIn (x .unit)) (stateOf (configIn (x .unit)) (keptIn x) .inner) s (heardOf s))
+    (portIn (numbersIn (x .unit)) .mark) (areasIn (y .unit) (y .block)) (filesIn (configIn (x .unit)) (y .area) (unitIn (y .unit) .counts)) (portHeard (portIn (numbersIn (x .unit))) s (m .outcome)) (numbersIn (y .unit))
     (x .area) (unitIn (x .unit) .counts) (y .area) (unitIn (y .unit) .counts) entry exit m → Steady (x .unit) (y .unit)
     → StretchPromise s x y entry exit m
 unfolding short makeOf shows moves portAfter changeOf decided
@@ -190,7 +190,7 @@ stretch-made s x entry y {exit} m g l b v steady =
     let z = v .makes in
     let k = z .kept in
     let port = ap (portAfter (portIn (numbersIn (x .unit))) (coming entry s)) (z .answered) in
-    let long : length (y .area) ≡ length (x .area) = ap length (v .changed .moved) ∙ length-area _ _ _ in
+    let long : length (y .area) ≡ length (x .area) = ap length (v .changed .moved) ∙ length-area _ _ _ _ in
     record {
       read = λ _. record {
         turns = record {

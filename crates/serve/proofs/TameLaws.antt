@@ -3,10 +3,10 @@ use mathlib.Core.Path.{_≡_, refl, sym, _∙_}
 use Prim.Native.Nat.{ℕ, _≤_, _+_, _*_, _<_, min}
 use native.Mathlib.Omega.{arith}
 use mathlib.Core.List.{List, []}
-use mathlib.Core.Bool.{true, Bool, false, not, _&&_, _||_, Bool·beq}
+use mathlib.Core.Bool.{true, Bool, false, _&&_, Bool·beq}
 use lib.ListN.{length, getD}
 use lib.Dec.{eqb, leb, ltb}
-use borrow.Author.Tests.{eqb-true, leb-true, ltb-true}
+use borrow.Author.Tests.{eqb-true, ltb-true}
 use Rattle.chars.specs.Word.{wordAt}
 use Rattle.chars.proofs.PutLaws.{part-most}
 use Rattle.model.specs.Limits.{mostData, mostAsked}
@@ -19,11 +19,11 @@ use Rattle.model.specs.Clock.{Timed, clockFits, timeIn, digitsFit, setTimeOf, t
 use Rattle.model.specs.Step.{answered}
 use Rattle.model.specs.declared.Clock.{Clock}
 use Rattle.model.specs.declared.Outcome.{Outcome}
-use Rattle.model.proofs.Conditions.{by-cond, false-true, and-left, and-right, every-upFrom}
+use Rattle.model.proofs.Conditions.{by-cond, false-true, and-left, and-right}
 use Rattle.serve.specs.Promises.{Tame}
 use native.Mathlib.Nat.{mul-le-mul-right, div-mul-le-self}
-use Rattle.chars.specs.Gather.{gather, upFrom, every}
-use Rattle.model.specs.Config.{Config, has, within, noneIn, fileValid, validOf, hasFile, sizeOf}
+use Rattle.chars.specs.Gather.{gather, upFrom}
+use Rattle.model.specs.Config.{Config, has, within, validOf, hasFile, sizeOf}
 use Rattle.model.specs.State.{Files, History, heldIn}
 use Rattle.model.specs.Change.{Change, stays}
 use Rattle.model.specs.Tables.{sendable, sendOf, tableScan, tablesOf}
@@ -41,7 +41,8 @@ use Rattle.model.specs.declared.Table.{Table}
 use Rattle.inputs.proofs.Fits.{inputs-fit}
 use Rattle.tables.proofs.Fits.{tables-fit}
 use Rattle.calculations.proofs.Fits.{calculations-fit}
-use Rattle.layout.specs.Records.{slot, baseOf, recordsIn, filesIn}
+use Rattle.layout.specs.Records.{Layout, packed, recordsIn, filesLaid}
+use Rattle.layout.proofs.RecordsLaws.{files-valid, size-valid}
 use Rattle.history.specs.Change.{areaAfter, countsAfter}
 use Rattle.history.specs.Tell.{cut, leftIn, toldIn}
 use Rattle.layout.specs.Numbers.{memoryIn}
@@ -242,41 +243,27 @@ history-says files values h q =
 
 -- an equipped file has records of at most 38 characters
 size-fits : (c : Config) (f : ℕ) → validOf c ≡ true → hasFile (c .files) f ≡ true → sizeOf (c .values) f ≤ 38
-unfolding validOf hasFile fileValid within sizeOf
-size-fits c f v e =
-    let h : has (c .files) f ≡ true = and-right (ltb f 32) (has (c .files) f) e in
-    let l : f < 32 = ltb-true f 32 (and-left (ltb f 32) (has (c .files) f) e) in
-    let b₅ : Bool = every (fileValid c) (upFrom 0 32) in
-    let b₄ : Bool = noneIn (c .calculations) 0x80 128 && b₅ in
-    let b₃ : Bool = noneIn (c .inputs) 0x60 32 && b₄ in
-    let b₂ : Bool = noneIn (c .inputs) 0x20 16 && b₃ in
-    let b₁ : Bool = leb (c .block) 512 && b₂ in
-    let z : b₅ ≡ true =
-    and-right (noneIn (c .calculations) 0x80 128) b₅ (and-right (noneIn (c .inputs) 0x60 32) b₄ (and-right (noneIn (c .inputs) 0x20 16) b₃
-    (and-right (leb (c .block) 512) b₂ (and-right (leb (c .unit) 0x7FE) b₁ v)))) in
-    let k : (not (has (c .files) f) || (leb 1 (getD (c .values) f 0) && leb (getD (c .values) f 0) 16)) ≡ true = every-upFrom (fileValid c) 0 32 z f (omega arith) (omega arith) in
-    let m : getD (c .values) f 0 ≤ 16 = leb-true (getD (c .values) f 0) 16 (and-right (leb 1 (getD (c .values) f 0)) (leb (getD (c .values) f 0) 16) (rw h at k)) in
-    omega arith
+size-fits c f v e = size-valid c f (files-valid c v) e
 
 most-size : (values : List ℕ) (f : ℕ) (dump : Bool) → sizeOf values f ≤ 38 → mostOf values f dump * sizeOf values f ≤ 510
 unfolding mostOf
 most-size values f true h = div-mul-le-self 510 (sizeOf values f)
 most-size values f false h = omega arith
 
-module _ (values area held₀ : List ℕ) where
+module _ (place : Layout) (values area held₀ : List ℕ) where
   records-short : (f n : ℕ) (dump more : Bool) → f < 32 → sizeOf values f ≤ 38 → n ≤ mostOf values f dump
-      → length (historyChars n more (heldIn (filesIn values area held₀) f)) ≤ 511
+      → length (historyChars n more (heldIn (filesLaid place values area held₀) f)) ≤ 511
   unfolding historyChars recordsIn
   records-short f n dump more k h l =
       let size = sizeOf values f in
       let g : min n (getD held₀ f 0) ≤ mostOf values f dump = omega arith in
-      rw (held-files values area held₀ f k, take-held slot size area (baseOf f) n (getD held₀ f 0))
-      (omega (arith, flat-most slot size area (baseOf f) (min n (getD held₀ f 0)), mul-le-mul-right size g, most-size values f dump h))
+      rw (held-files place values area held₀ f k, take-held (place .slot f) size area (place .base f) n (getD held₀ f 0))
+      (omega (arith, flat-most (place .slot f) size area (place .base f) (min n (getD held₀ f 0)), mul-le-mul-right size g, most-size values f dump h))
 
   Short : Told → Type 0
   Short t = length (t .says .chars) ≤ 511
 
-  again-short : (w : Memory) (q : Request) → fileOf q < 32 → sizeOf values (fileOf q) ≤ 38 → Short (againWhen (cut values w) (filesIn values area held₀) q)
+  again-short : (w : Memory) (q : Request) → fileOf q < 32 → sizeOf values (fileOf q) ≤ 38 → Short (againWhen (cut values w) (filesLaid place values area held₀) q)
   unfolding Short againWhen cut untold agrees
   again-short Nothing q k l = omega arith
   again-short (Remembered t) q k l =
@@ -296,7 +283,7 @@ told-short u area q v =
     let held : List ℕ = unitIn u .counts in
     let w : Memory = memoryIn (unitIn u .numbers) in
     let freed : Change = freedFor w (masterOf (q .address)) in
-    let P : Told → Type 0 = Short (c .values) area held in
+    let P : Told → Type 0 = Short (packed c) (c .values) area held in
     by-cond P (ltb (q .command) 128)
     (λ e. by-cond P (counts 0 q)
     (λ e. by-cond P (hasFile (c .files) (fileOf q))
@@ -307,8 +294,8 @@ told-short u area q v =
     (λ e.
     let rs = heldIn (leftIn u area freed) (fileOf q) in
     let n : ℕ = min (length rs) (mostOf (c .values) (fileOf q) (dumps q)) in
-    records-short (c .values) (areaAfter freed held area) (countsAfter freed held) (fileOf q) n (dumps q) (ltb n (length rs)) l z (omega arith))
-    (λ e. again-short (c .values) (areaAfter stays held area) (countsAfter stays held) w q l z))
+    records-short (packed c) (c .values) (areaAfter (packed c) freed held area) (countsAfter freed held) (fileOf q) n (dumps q) (ltb n (length rs)) l z (omega arith))
+    (λ e. again-short (packed c) (c .values) (areaAfter (packed c) stays held area) (countsAfter stays held) w q l z))
     (λ e. omega arith))
     (λ e. omega arith))
     (λ e. omega arith)

@@ -24,13 +24,13 @@ pub acted-told : (u block area : List ℕ) (q : Request) {m : Stepped} (v : List
     → length u ≡ unitLong → Ready u area → readable (numbersIn u) ≡ true → ServePromise u q area entry t v area′ exit
     → m ≡ telling (innerIn u block area) (historyOf (configIn u .files) (configIn u .values) (record { memory = memoryIn (numbersIn u); files = filesHeld u area }) q)
     → r ≡ record { outcome = t .outcome; action = Rest; count = t .count }
-    → StepInPromise m (areasIn v block) (filesHeld u area) (filesIn (configIn u .values) area′ (unitIn v .counts)) (portIn (numbersIn u)) (numbersIn v) area (unitIn u .counts) area′ (unitIn v .counts) entry exit r
+    → StepInPromise (configIn u) m (areasIn v block) (filesHeld u area) (filesIn (configIn u) area′ (unitIn v .counts)) (portIn (numbersIn u)) (numbersIn v) area (unitIn u .counts) area′ (unitIn v .counts) entry exit r
 unfolding telling scanned
 acted-told u block area q v t long y stands s z e =
-    let w = serves-told u area (y .valid) (y .fits) (y .room) long q s in
-    let f = serves-files u area (y .valid) (y .fits) (y .room) long q s in
-    let k = serves-written u area (y .valid) (y .fits) (y .room) long q s stands in
-    let ch = serves-shifted u area (y .valid) (y .fits) (y .room) long q s in
+    let w = serves-told u area (y .fits) (y .room) long q s in
+    let f = serves-files u area (y .fits) (y .room) long q s in
+    let k = serves-written u area (y .fits) (y .room) long q s stands in
+    let ch = serves-shifted u area (y .fits) (y .room) long q s in
     let n : t .count ≤ 511 = omega (arith, told-short u area q (y .valid), s .told .sent .counted) in
     rw (z, e)
     (record {

@@ -10,7 +10,7 @@ use Rattle.chars.specs.Put.{put}
 use Rattle.model.specs.Limits.{replyHead, mostData, longestReply}
 use Rattle.model.specs.Frame.{Request, heardOf}
 use Rattle.model.specs.Outcome.{numberOf, sendingOf}
-use Rattle.model.specs.Config.{within, validOf}
+use Rattle.model.specs.Config.{Config, within, validOf}
 use Rattle.model.specs.Fits.{historyFits}
 use Rattle.model.specs.State.{Areas, Files}
 use Rattle.model.specs.Change.{applied}
@@ -70,10 +70,10 @@ pub record StepPromise (m : Stepped) (a : Areas) (p : Port) (ls entry exit : Lis
   pub tame : Tame (m .step .says .outcome) (m .step .says .chars)
 
 -- the same with the files, and with their lent characters and counts
-pub record StepInPromise (m : Stepped) (a : Areas) (fs fs′ : Files) (p : Port) (ls area counts area′ counts′ entry exit : List ℕ) (r : Step) : Type 0 where
+pub record StepInPromise (c : Config) (m : Stepped) (a : Areas) (fs fs′ : Files) (p : Port) (ls area counts area′ counts′ entry exit : List ℕ) (r : Step) : Type 0 where
   pub acts : StepPromise m a p ls entry exit r
   pub files : fs′ ≡ applied (m .change) fs
-  pub changed : Shifted (m .change) area counts area′ counts′
+  pub changed : Shifted c (m .change) area counts area′ counts′
 
 -- function 20h, whatever records there are
 abbrev pub InternalPromise : Request → List ℕ → List ℕ → List ℕ → List ℕ → List ℕ → List ℕ → Step → Type 0
@@ -92,8 +92,8 @@ ReturnedPromise q u block entry exit r =
 abbrev pub ActPromise : Request → Owned → Owned → List ℕ → List ℕ → Step → Type 0
 ActPromise q x y entry exit r =
     (Ready (x .unit) (x .area) → readable (numbersIn (x .unit)) ≡ true
-    → StepInPromise (stepOf (configIn (x .unit)) (innerIn (x .unit) (x .block) (x .area)) q)
-    (areasIn (y .unit) (y .block)) (filesHeld (x .unit) (x .area)) (filesIn (configIn (x .unit) .values) (y .area) (unitIn (y .unit) .counts))
+    → StepInPromise (configIn (x .unit)) (stepOf (configIn (x .unit)) (innerIn (x .unit) (x .block) (x .area)) q)
+    (areasIn (y .unit) (y .block)) (filesHeld (x .unit) (x .area)) (filesIn (configIn (x .unit)) (y .area) (unitIn (y .unit) .counts))
     (portIn (numbersIn (x .unit))) (numbersIn (y .unit)) (x .area) (unitIn (x .unit) .counts) (y .area) (unitIn (y .unit) .counts) entry exit r)
     × Steady (x .unit) (y .unit)
 
@@ -111,16 +111,16 @@ pub record MadePromise (m : Made) (mark : Mark) (a : Areas) (fs : Files) (p : Po
   pub files : fs ≡ m .inner .history .files
 
 -- the same with the lent characters and counts of the files
-pub record MadeInPromise (m : Made) (mark : Mark) (a : Areas) (fs : Files) (p : Port) (ls area counts area′ counts′ entry exit : List ℕ) (r : MadeOf) : Type 0 where
+pub record MadeInPromise (c : Config) (m : Made) (mark : Mark) (a : Areas) (fs : Files) (p : Port) (ls area counts area′ counts′ entry exit : List ℕ) (r : MadeOf) : Type 0 where
   pub makes : MadePromise m mark a fs p ls entry exit r
-  pub changed : Shifted (m .change) area counts area′ counts′
+  pub changed : Shifted c (m .change) area counts area′ counts′
 
 -- the same of what is owned before and after, where the unit is in range, with the port as it is left
 abbrev pub OwnedPromise : Made → Port → Owned → Owned → List ℕ → List ℕ → MadeOf → Type 0
 OwnedPromise m p x y entry exit r =
     (Ready (x .unit) (x .area) → readable (numbersIn (x .unit)) ≡ true
-    → MadeInPromise m (portIn (numbersIn (x .unit)) .mark) (areasIn (y .unit) (y .block))
-    (filesIn (configIn (x .unit) .values) (y .area) (unitIn (y .unit) .counts)) p (numbersIn (y .unit))
+    → MadeInPromise (configIn (x .unit)) m (portIn (numbersIn (x .unit)) .mark) (areasIn (y .unit) (y .block))
+    (filesIn (configIn (x .unit)) (y .area) (unitIn (y .unit) .counts)) p (numbersIn (y .unit))
     (x .area) (unitIn (x .unit) .counts) (y .area) (unitIn (y .unit) .counts) entry exit r)
     × Steady (x .unit) (y .unit)
 

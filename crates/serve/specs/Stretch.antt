@@ -32,7 +32,7 @@ pub record Turns (c : Config) (s : List ℕ) (k l : Kept) (entry exit : List ℕ
   pub small : r .sent ≤ longestReply
   pub written : exit ≡ put entry 0 (resultOf c (stateOf c k) (coming entry s) .reply)
   pub next : stateOf c l ≡ nextOf c (stateOf c k) (coming entry s)
-  pub changed : Shifted (changeOf c (stateOf c k) (coming entry s)) (k .area) (k .counts) (l .area) (l .counts)
+  pub changed : Shifted c (changeOf c (stateOf c k) (coming entry s)) (k .area) (k .counts) (l .area) (l .counts)
 
 -- the same of what a caller owns, which is such as a unit writes afterwards and keeps its configuration
 pub record Served (s : List ℕ) (x y : Owned) (entry exit : List ℕ) (r : Made) : Type 0 where

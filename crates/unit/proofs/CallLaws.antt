@@ -1,7 +1,8 @@
--- A run of calls of the proved entries gives the state and the trace that the definition gives. Assumes nothing.
+-- A run of calls of the proved entries gives the state and the trace that the definition gives, and is the run over lent characters by the
+-- packed layout. Assumes nothing.
 use mathlib.Core.Path.{_≡_, refl, sym, ap, _∙_}
 use Prim.Native.Nat.{ℕ, _≤_}
-use mathlib.Core.List.{List, [], _∷_}
+use mathlib.Core.List.{List, [], _∷_, map}
 use lib.ListN.{length, take}
 use native.Mathlib.Omega.{arith}
 use Rattle.chars.proofs.PutLaws.{take-put-front}
@@ -12,10 +13,16 @@ use Rattle.model.specs.Fits.{fits}
 use Rattle.model.specs.Event.{Local, setWord, setValue, pulses, store, Event, stretch, elapsed, local}
 use Rattle.model.specs.Step.{quiet, elapsedMade, localMade, wordMade, valueMade, storeMade, localOf, makeOf}
 use Rattle.model.specs.Port.{sentChars}
-use Rattle.model.specs.Run.{Result, Entry, short, turnedAway, shows, decided, resultOf, entryOf, afterFrom, traceFrom}
+use Rattle.model.specs.Run.{Result, Entry, short, turnedAway, shows, decided, resultOf, nextOf, changeOf, entryOf, afterFrom, traceFrom}
 use Rattle.model.specs.declared.Answer.{Answer}
 use Rattle.model.specs.declared.Action.the-variants.{Rest}
-use Rattle.layout.specs.Kept.{Kept, stateOf}
+use Rattle.layout.specs.Records.{roomOf, packed}
+use Rattle.layout.specs.Kept.{Kept, keptOf, stateOf}
+use Rattle.layout.proofs.RecordsLaws.{packed-serves}
+use Rattle.history.specs.Change.{OthersStay}
+use Rattle.history.specs.Runs.{keptAs, nextLaid, answersLaid, afterLaid}
+use Rattle.history.proofs.RunLaws.{event-untouched}
+use Rattle.serve.specs.Changes.{Shifted}
 use Rattle.unit.specs.Events.{Heeds}
 use Rattle.serve.specs.Stretch.{coming, Turns}
 use Rattle.unit.specs.Calls.{NoStretch, results, madeShown, answeredBy, Calls, none, heard, heeded}
@@ -76,3 +83,42 @@ calls-trace c (heard {es = es} t cs) =
     λ i. shown-turn c t i ∷ (calls-trace c cs ∙ ap (λ (s : State). results (traceFrom c s es)) (t .next)) i
 calls-trace c (heeded {es = es} n h cs) =
     λ i. shown-heed c n h i ∷ (calls-trace c cs ∙ ap (λ (s : State). results (traceFrom c s es)) (h .next)) i
+
+-- ---- the lent characters
+
+-- what a call leaves is what the packed layout leaves
+next-laid : (c : Config) (k l : Kept) (e : Event) → stateOf c l ≡ nextOf c (stateOf c k) e → Shifted c (changeOf c (stateOf c k) e) (k .area) (k .counts) (l .area) (l .counts)
+    → l ≡ nextLaid (packed c) c k e
+unfolding nextLaid keptAs
+next-laid c k l e n ch =
+    λ i. keptOf (n i .inner .core) (n i .inner .history .memory) (n i .port) (n i .inner .areas .words) (n i .inner .areas .values) (n i .inner .areas .fixed)
+    (n i .inner .areas .block) (ch .moved i) (ch .counted i)
+
+-- and so what a run of them shows and leaves
+pub calls-laid : (c : Config) {k l : Kept} {es : List Event} {xs : List Result} → Calls c k es xs l → (xs ≡ answersLaid (packed c) c k es) × (l ≡ afterLaid (packed c) c k es)
+unfolding answersLaid afterLaid
+calls-laid c none = (refl, refl)
+calls-laid c (heard {k} {l} {es = es} t cs) =
+    let n = next-laid c k l _ (t .next) (t .changed) in
+    let r = calls-laid c cs in (
+      λ i. shown-turn c t i ∷ (r .0 ∙ ap (λ (m : Kept). answersLaid (packed c) c m es) n) i,
+      r .1 ∙ ap (λ (m : Kept). afterLaid (packed c) c m es) n,
+    )
+calls-laid c (heeded {k} {l} {e = e} {es = es} o h cs) =
+    let n = next-laid c k l e (h .next) (h .changed) in
+    let r = calls-laid c cs in (
+      λ i. shown-heed c o h i ∷ (r .0 ∙ ap (λ (m : Kept). answersLaid (packed c) c m es) n) i,
+      r .1 ∙ ap (λ (m : Kept). afterLaid (packed c) c m es) n,
+    )
+
+-- no call touches a character of a file that it does not change, or one behind the room
+pub call-untouched : (c : Config) (k l : Kept) (e : Event) → stateOf c l ≡ nextOf c (stateOf c k) e → Shifted c (changeOf c (stateOf c k) e) (k .area) (k .counts) (l .area) (l .counts)
+    → roomOf c ≤ length (k .area) → length (k .counts) ≡ 32 → OthersStay c (packed c) (changeOf c (stateOf c k) e) (k .area) (l .area)
+call-untouched c k l e n ch room long =
+    rw (ap (λ (m : Kept). m .area) (next-laid c k l e n ch)) (event-untouched (packed c) c (λ v. packed-serves c) k (unfold packed in room) long e)
+
+-- the results of a trace, entry by entry
+pub results-map : (xs : List Entry) → results xs ≡ map (λ (x : Entry). x .result) xs
+unfolding results
+results-map [] = refl
+results-map (x ∷ xs) = ap (λ (ys : List Result). x .result ∷ ys) (results-map xs)

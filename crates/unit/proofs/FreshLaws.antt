@@ -1,10 +1,10 @@
 -- A fresh unit: what is cleared character by character, and the state that what is laid and cleared stands for. Assumes nothing.
 use mathlib.Core.Path.{_≡_, refl, sym, ap, _∙_}
-use Prim.Native.Nat.{ℕ, zero, suc, _+_, _≤_}
+use Prim.Native.Nat.{ℕ, _+_, _≤_}
 use native.Mathlib.Omega.{arith}
-use mathlib.Core.List.{List, [], _∷_}
+use mathlib.Core.List.{List}
 use mathlib.Core.Bool.{true}
-use lib.ListN.{length, getD, set, take, replicate, length-replicate, replicate-append-replicate}
+use lib.ListN.{length, set, take, replicate, length-replicate, replicate-append-replicate}
 use lib.Seq.{take-all}
 use borrow.Author.Tests.{le-leb, eq-eqb}
 use Rattle.chars.specs.Put.{put}
@@ -14,7 +14,8 @@ use Rattle.model.specs.State.{freshCore, freshAreas, freshHistory, freshPort, f
 use Rattle.model.specs.Port.{markNumber}
 use Rattle.model.specs.declared.Memory.the-variants.{Nothing}
 use Rattle.model.proofs.Conditions.{and-both}
-use Rattle.layout.specs.Records.{held, recordsIn, each, filesIn, roomOf}
+use Rattle.layout.specs.Records.{packed, roomOf}
+use Rattle.history.proofs.RunLaws.{files-none}
 use Rattle.layout.specs.Numbers.{
   bitOf,
   holdNumbers,
@@ -34,7 +35,7 @@ use Rattle.layout.specs.Numbers.{
   Written,
 }
 use Rattle.layout.proofs.NumbersLaws.{written-readable}
-use Rattle.layout.specs.Unit.{unitLong, configLong, layoutNumber, Unit, unitIn, configIn, numbersIn, configGiven, setNumbers, blankUnit, blankOf, Renumbered}
+use Rattle.layout.specs.Unit.{unitLong, Unit, unitIn, configIn, numbersIn, configGiven, setNumbers, blankUnit, blankOf, Renumbered}
 use Rattle.layout.specs.Regions.{startIn}
 use Rattle.layout.proofs.UnitLaws.{renumbered-then}
 use Rattle.layout.proofs.BlankLaws.{blank-long, blank-means}
@@ -56,28 +57,6 @@ zero-all xs i {ys} l e =
     let z : take (length (replicate {A = ℕ} i 0)) (put xs 0 (replicate i 0)) ≡ replicate i 0 = take-put-front xs (replicate i 0) (omega arith) in
     let w : take (length (replicate {A = ℕ} i 0)) ys ≡ ys = take-all (length (replicate {A = ℕ} i 0)) ys (omega (arith, ap length e, length-put xs 0 (replicate i 0))) in
     sym w ∙ rw e z ∙ ap (λ (k : ℕ). replicate {A = ℕ} k 0) l
-
--- ---- the records
-
-zero-at : (n f : ℕ) → getD (replicate {A = ℕ} n 0) f 0 ≡ 0
-zero-at zero f = refl
-zero-at (suc n) zero = refl
-zero-at (suc n) (suc f) = zero-at n f
-
-none-held : (values area counts : List ℕ) (f : ℕ) → getD counts f 0 ≡ 0 → recordsIn values area counts f ≡ []
-unfolding recordsIn held
-none-held values area counts f e = rw e
-
-each-none : (g : ℕ → List (List ℕ)) → ((f : ℕ) → g f ≡ []) → (n : ℕ) → each g n ≡ replicate n []
-unfolding each
-each-none g h zero = refl
-each-none g h (suc n) =
-    let z : n + 1 ≡ suc n = omega arith in
-    rw (each-none g h n, h n) (replicate-append-replicate {A = List (List ℕ)} n 1 [] ∙ ap (λ (k : ℕ). replicate {A = List (List ℕ)} k []) z)
-
-files-none : (values area : List ℕ) → filesIn values area (replicate 32 0) ≡ replicate 32 []
-unfolding filesIn
-files-none values area = each-none (recordsIn values area (replicate 32 0)) (λ f. none-held values area (replicate 32 0) f (zero-at 32 f)) 32
 
 -- ---- the numbers
 
@@ -126,7 +105,7 @@ module _ (cs : List ℕ) {n : ℕ} (as-said : n ≡ configGiven cs .block) {u bl
       (λ i. stateOf (configIn u) (keptOf (coreIn (ks i)) (memoryIn (ks i)) (portIn (ks i)) (x i .words) (x i .values) (x i .fixed) (blank i) area (x i .counts)))
       ∙ (λ i. stateOf (configIn u)
       (keptOf (w .core i) (w .memory i) (w .port i) (replicate 256 0) (replicate 128 0) (replicate 528 0) (replicate (configIn u .block) 0) area (replicate 32 0)))
-      ∙ rw (files-none (configIn u .values) area)
+      ∙ rw (files-none (packed (configIn u)) (configIn u .values) area)
 
   pub laid-stands : roomOf (configIn u) ≤ length area → standing (ownedOf u bl area) ≡ true
   unfolding standing

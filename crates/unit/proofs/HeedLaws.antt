@@ -53,12 +53,12 @@ module _ (c : Config) (k : Kept) where
         record {
           answered = sym (ap (λ (r : Result). r .answer) (w .0));
           next = sym (w .1);
-          changed = rw (s, b) (still (k .area) (k .counts));
+          changed = rw (s, b) (still c (k .area) (k .counts));
         }
 
     heeds-made : {a : Answer} {l : Kept} (m : Made) → fits c (stateOf c k) ≡ true → makeOf c (stateOf c k .inner) e ≡ m
         → a ≡ m .answer → stateOf c l ≡ moves (k .port) e m
-        → Shifted (m .change) (k .area) (k .counts) (l .area) (l .counts) → Heeds c e k l a
+        → Shifted c (m .change) (k .area) (k .counts) (l .area) (l .counts) → Heeds c e k l a
     unfolding shows changeOf decided
     heeds-made m b z a n ch =
         let w = works c (stateOf c k) e s b in
@@ -75,26 +75,26 @@ module _ (c : Config) (k : Kept) where
           → Heeds c e k (keptOf (k .core) (k .memory) (k .port) (m .area) (k .results) (k .fixed) (k .block) (k .area) (k .counts)) (Ended r)
       unfolding moves wordMade localMade quiet
       heeds-word z =
-          heeds-made (wordMade (stateOf c k .inner) m) b z (ap Ended w) (rw p) (still (k .area) (k .counts))
+          heeds-made (wordMade (stateOf c k .inner) m) b z (ap Ended w) (rw p) (still c (k .area) (k .counts))
 
       pub heeds-value : makeOf c (stateOf c k .inner) e ≡ valueMade (stateOf c k .inner) m
           → Heeds c e k (keptOf (k .core) (k .memory) (k .port) (k .words) (m .area) (k .fixed) (k .block) (k .area) (k .counts)) (Ended r)
       unfolding moves valueMade localMade quiet
       heeds-value z =
-          heeds-made (valueMade (stateOf c k .inner) m) b z (ap Ended w) (rw p) (still (k .area) (k .counts))
+          heeds-made (valueMade (stateOf c k .inner) m) b z (ap Ended w) (rw p) (still c (k .area) (k .counts))
 
   -- time moves the core and the port
   pub heeds-time : (ms : ℕ) {core : Core} {port : Port} → fits c (stateOf c k) ≡ true → core ≡ coreAfter (k .core) ms → port ≡ silentAfter (k .port) ms
       → Heeds c (elapsed ms) k (keptOf core (k .memory) port (k .words) (k .results) (k .fixed) (k .block) (k .area) (k .counts)) (Ended Done)
   unfolding short makeOf elapsedMade quiet moves portAfter
   heeds-time ms b x y =
-      heeds-made (elapsed ms) refl (elapsedMade (stateOf c k .inner) ms) b refl refl (rw (x, y)) (still (k .area) (k .counts))
+      heeds-made (elapsed ms) refl (elapsedMade (stateOf c k .inner) ms) b refl refl (rw (x, y)) (still c (k .area) (k .counts))
 
   -- storing: all four ends of it at once
   pub heeds-store : (f : File) (event : ℕ) (vs : List ℕ) {r : Stored} {area counts : List ℕ} {core : Core} → fits c (stateOf c k) ≡ true
       → r ≡ storedAs (c .files) (c .values) (stateOf c k .inner .history .files) (f .0) vs
-      → filesIn (c .values) area counts ≡ applied (addedBy r (f .0) (recordChars (record { event = event; clock = k .core .clock }) vs)) (stateOf c k .inner .history .files)
-      → Shifted (addedBy r (f .0) (recordKept (record { event = event; clock = k .core .clock }) vs)) (k .area) (k .counts) area counts → core ≡ notedIn r (k .core)
+      → filesIn c area counts ≡ applied (addedBy r (f .0) (recordChars (record { event = event; clock = k .core .clock }) vs)) (stateOf c k .inner .history .files)
+      → Shifted c (addedBy r (f .0) (recordKept (record { event = event; clock = k .core .clock }) vs)) (k .area) (k .counts) area counts → core ≡ notedIn r (k .core)
       → Heeds c (local (store f event vs)) k (keptOf core (k .memory) (k .port) (k .words) (k .results) (k .fixed) (k .block) area counts) (Storing r)
   unfolding short makeOf localOf storeMade changedBy moves portAfter
   heeds-store f event vs {r} b o fl w x =

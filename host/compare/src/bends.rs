@@ -115,14 +115,9 @@ pub const BENDS: [(&str, Bend); 23] = [
         Some(Change::Lent(lent)).filter(|_| length == usize::from(p.equipment.length))
     }),
     ("room of the records", |rng, p| {
-        let any = rng.below(header::RECORDS);
-        let records = rng.pick(&[
-            0,
-            1,
-            any,
-            header::RECORDS - header::RECORD_SLOT,
-            header::RECORDS - 1,
-        ]);
+        let less = p.places.room.checked_sub(1)?;
+        let any = rng.below(p.places.room);
+        let records = rng.pick(&[0, 1, any, less, less]);
         Some(Change::Lent(Lent { records, ..p.lent }))
     }),
 ];

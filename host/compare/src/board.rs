@@ -7,7 +7,7 @@ pub mod header {
 
 use header::{CONFIG, FILES, INPUTS, KEPT, UNIT};
 
-/// The memory set aside for a parameter block, and for records: more than a unit has, to lend too much.
+/// The memory set aside for a parameter block, and for records: more than any unit has, to lend too much.
 pub const BLOCK: usize = header::BLOCK + 88;
 pub const RECORDS: usize = header::RECORDS + 64;
 
@@ -57,6 +57,7 @@ pub struct Turned {
 extern "C" {
     fn osturdam_layout() -> u16;
     fn osturdam_valid(config: &[u8; CONFIG]) -> u8;
+    fn osturdam_room(config: &[u8; CONFIG]) -> u64;
     fn osturdam_fresh(
         unit: &mut [u8; UNIT], block: *mut u8, length: u64, config: &[u8; CONFIG]);
     fn osturdam_stretch(
@@ -87,6 +88,11 @@ pub fn layout() -> u16 {
 /// Whether the library takes a configuration for a valid one.
 pub fn valid(config: &[u8; CONFIG]) -> u8 {
     unsafe { osturdam_valid(config) }
+}
+
+/// How many characters of records the library says that a configuration asks for.
+pub fn room(config: &[u8; CONFIG]) -> u64 {
+    unsafe { osturdam_room(config) }
 }
 
 /// The word whose low character stands at this place.

@@ -3,11 +3,11 @@
 use crate::board::header::{self, KEPT};
 use crate::board::{Turned, Unit};
 use crate::event::Event;
-use crate::image::record_place;
+use crate::places::Places;
 
-type Plant = fn(&Event, &[u16; KEPT], &mut Unit, &mut Turned, &mut [u8]);
+type Plant = fn(&Event, &[u16; KEPT], &Places, &mut Unit, &mut Turned, &mut [u8]);
 
-/// A fault: it looks at the event, the kept numbers before it and all that the unit made of it, and spoils something.
+/// A fault: it looks at the event, the kept numbers before it, where records lie and all that the unit made of it, and spoils something.
 pub struct Fault {
     pub name: &'static str,
     /// The most events that a run showing it needs.
@@ -20,17 +20,17 @@ pub static FAULTS: [Fault; 11] = [
     Fault {
         name: "a select held by another is told as none",
         most: 2,
-        plant: |_, _, _, t, _| t.outcome = if t.outcome == 13 { 14 } else { t.outcome },
+        plant: |_, _, _, _, t, _| t.outcome = if t.outcome == 13 { 14 } else { t.outcome },
     },
     Fault {
         name: "a close opens",
         most: 2,
-        plant: |_, _, _, t, _| t.action = t.action.min(1),
+        plant: |_, _, _, _, t, _| t.action = t.action.min(1),
     },
     Fault {
         name: "a history reply with the flag has a wrong character",
-        most: 1,
-        plant: |_, _, _, t, reply| {
+        most: 2,
+        plant: |_, _, _, _, t, reply| {
             if t.sent > 9 && reply[2] == 0x04 && reply[7] & 0x80 != 0 {
                 reply[t.sent - 3] ^= 1;
             }
@@ -39,7 +39,7 @@ pub static FAULTS: [Fault; 11] = [
     Fault {
         name: "a character is written behind a NOP",
         most: 1,
-        plant: |_, _, _, t, reply| {
+        plant: |_, _, _, _, t, reply| {
             if t.sent > 0 && reply[2] & 0x40 != 0 {
                 reply[t.sent] ^= 1;
             }
@@ -48,7 +48,7 @@ pub static FAULTS: [Fault; 11] = [
     Fault {
         name: "a select ages too little past 3,000",
         most: 2,
-        plant: |_, _, u, _, _| {
+        plant: |_, _, _, u, _, _| {
             let age = u.memory.kept(header::SELECT_AGE);
             if usize::from(u.memory.kept(header::SELECT)) == header::HELD && age > 3000 {
                 u.memory.put_kept(header::SELECT_AGE, age - 1);
@@ -58,14 +58,14 @@ pub static FAULTS: [Fault; 11] = [
     Fault {
         name: "a point changes as another master's select is refused",
         most: 2,
-        plant: |_, _, u, t, _| {
+        plant: |_, _, _, u, t, _| {
             u.memory.chars[header::AT_WORDS + 2 * 0xFF] ^= u8::from(t.outcome == 13)
         },
     },
     Fault {
         name: "the parameter block changes as bit 7 clears",
         most: 2,
-        plant: |_, before, u, _, _| {
+        plant: |_, before, _, u, _, _| {
             let bit = header::STATUS_CONFIGURE;
             u.block[0] ^= u8::from(before[bit] > u.memory.kept(bit));
         },
@@ -73,36 +73,37 @@ pub static FAULTS: [Fault; 11] = [
     Fault {
         name: "the third record of a file spoils the first",
         most: 3,
-        plant: |e, _, u, t, _| {
+        plant: |e, _, p, u, t, _| {
             if let Event::Store { file, .. } = e {
                 let file = usize::from(*file) % header::FILES;
-                u.records[record_place(file, 0)] ^=
-                    u8::from(t.outcome == 0 && u.memory.count(file) == 3);
+                if let Some(first) = p.of_record(file, 0) {
+                    u.records[first] ^= u8::from(t.outcome == 0 && u.memory.count(file) == 3);
+                }
             }
         },
     },
     Fault {
         name: "a refused store writes past the records held",
         most: 1,
-        plant: |e, _, u, t, _| {
+        plant: |e, _, p, u, t, _| {
             if matches!(e, Event::Store { .. }) && t.outcome == 3 {
-                u.records[header::RECORDS - 1] ^= 1;
+                u.records[p.room - 1] ^= 1;
             }
         },
     },
     Fault {
         name: "a stored record writes behind all records",
         most: 1,
-        plant: |e, _, u, t, _| {
+        plant: |e, _, p, u, t, _| {
             if matches!(e, Event::Store { .. }) && t.outcome == 0 {
-                u.records[header::RECORDS] ^= 1;
+                u.records[p.room] ^= 1;
             }
         },
     },
     Fault {
         name: "an accumulator that counts changes the configuration",
         most: 1,
-        plant: |e, _, u, t, _| {
+        plant: |e, _, _, u, t, _| {
             if matches!(e, Event::Pulses(..)) && t.outcome == 0 {
                 u.memory.chars[header::AT_VALUES] ^= 1;
             }

@@ -1,7 +1,8 @@
 //! The independent unit's kept state as the proved unit's memory has it, and where the two differ.
 
-use crate::board::header::{self, CONFIG, FILES, INPUTS, KEPT, RECORD_SLOT, ROOM, UNIT};
+use crate::board::header::{self, CONFIG, FILES, INPUTS, KEPT, UNIT};
 use crate::board::{Equipment, Memory, Unit};
+use crate::places::Places;
 use independent::{Config, State};
 use std::fmt::Display;
 
@@ -99,23 +100,18 @@ pub fn memory_of(config: &[u8; CONFIG], state: &State) -> Memory {
     made
 }
 
-/// Where a record's characters start. More records than `ROOM` have no place; a unit that claims to hold them is out of range.
-pub fn record_place(file: usize, record: usize) -> usize {
-    (file * ROOM + record) * RECORD_SLOT
-}
-
-/// Writes a file's records into the proved unit's memory.
-pub fn put_file(state: &State, unit: &mut Unit, file: usize) {
-    for (i, record) in state.files[file].iter().take(ROOM).enumerate() {
-        let at = record_place(file, i);
-        unit.records[at..at + record.len()].copy_from_slice(record);
+/// Writes a file's records into the proved unit's memory, as many as have a place there.
+pub fn put_file(state: &State, places: &Places, unit: &mut Unit, file: usize) {
+    for (i, record) in state.files[file].iter().enumerate() {
+        if let Some(at) = places.of_record(file, i) {
+            unit.records[at..at + record.len()].copy_from_slice(record);
+        }
     }
 }
 
-/// Whether the record stands in its place.
-fn stands(unit: &Unit, file: usize, i: usize, record: &[u8]) -> bool {
-    let at = record_place(file, i);
-    unit.records[at..at + record.len()] == *record
+/// Whether the record stands in its place, if it has one.
+fn stands(unit: &Unit, place: Option<usize>, record: &[u8]) -> bool {
+    place.is_none_or(|at| unit.records[at..at + record.len()] == *record)
 }
 
 /// The first place in which two parts differ.
@@ -157,6 +153,7 @@ fn memory_difference(proved: &Memory, independent: &Memory) -> Option<String> {
 /// The first kept number, character or record in which the two differ.
 pub fn difference(
     config: &[u8; CONFIG],
+    places: &Places,
     state: &State,
     params: &[u8],
     unit: &Unit,
@@ -166,13 +163,14 @@ pub fn difference(
         .then(|| memory_difference(&unit.memory, &memory))
         .flatten()
         .or_else(|| first("parameter block at", &unit.block, params))
-        .or_else(|| records_difference(state, unit))
+        .or_else(|| records_difference(state, places, unit))
 }
 
-fn records_difference(state: &State, unit: &Unit) -> Option<String> {
+fn records_difference(state: &State, places: &Places, unit: &Unit) -> Option<String> {
     for (file, held) in state.files.iter().enumerate() {
-        let differs = |(i, record): (usize, &Vec<u8>)| !stands(unit, file, i, record);
-        if let Some(i) = held.iter().take(ROOM).enumerate().position(differs) {
+        let differs =
+            |(i, record): (usize, &Vec<u8>)| !stands(unit, places.of_record(file, i), record);
+        if let Some(i) = held.iter().enumerate().position(differs) {
             return Some(format!("file {file}: record {i} differs"));
         }
     }

@@ -11,6 +11,7 @@ mod faults;
 mod frames;
 mod image;
 mod pair;
+mod places;
 mod raw;
 mod record;
 mod reduce;

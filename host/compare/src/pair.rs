@@ -1,10 +1,11 @@
 //! Both units side by side: each event goes to both, and everything is compared.
 
 use crate::board::header::{self, CONFIG, KEPT, REPLY};
-use crate::board::{valid, Equipment, Lent, Turned, Unit};
+use crate::board::{room, valid, Equipment, Lent, Turned, Unit};
 use crate::event::{hex, Change, Event, Hold};
 use crate::faults::Fault;
 use crate::image::{config_of, difference, memory_of, put_file};
+use crate::places::Places;
 use crate::scene::Scene;
 use independent::{Action, Answer, Config, State};
 
@@ -30,13 +31,14 @@ pub struct Pair {
     pub state: State,
     pub lent: Lent,
     pub equipment: Equipment,
+    pub places: Places,
     pub unit: Box<Unit>,
     /// The proved unit's kept numbers before the latest event.
     pub before: [u16; KEPT],
     /// The configuration as characters: no event changes one.
     chars: [u8; CONFIG],
     params: Vec<u8>,
-    /// The characters of records as the latest event left them, those of no record and those behind all records too.
+    /// The characters of records as the latest event left them, those of no record and those behind what is asked for too.
     records: Vec<u8>,
     reply: [u8; BUFFER],
     other: [u8; BUFFER],
@@ -53,15 +55,19 @@ impl Pair {
         if valid(&chars) != u8::from(config.valid()) {
             return Err(format!("at the start: valid is {}", valid(&chars)));
         }
+        let places = Places::of(&scene.equipment);
+        if room(&chars) != places.room as u64 {
+            return Err(format!("at the start: room is {}", room(&chars)));
+        }
         unit.block.copy_from_slice(&scene.params);
         if scene.fresh {
             unit.block[..scene.lent.block].fill(scene.fill);
             unit.fresh(scene.lent, &chars);
         } else {
             unit.memory = memory_of(&chars, &scene.state);
-            (0..header::FILES).for_each(|file| put_file(&scene.state, &mut unit, file));
+            (0..header::FILES).for_each(|file| put_file(&scene.state, &places, &mut unit, file));
         }
-        if let Some(found) = difference(&chars, &scene.state, &scene.params, &unit) {
+        if let Some(found) = difference(&chars, &places, &scene.state, &scene.params, &unit) {
             return Err(format!("at the start: {found}"));
         }
         Ok(Pair {
@@ -69,6 +75,7 @@ impl Pair {
             state: scene.state.clone(),
             lent: scene.lent,
             equipment: scene.equipment.clone(),
+            places,
             before: unit.memory.all_kept(),
             chars,
             params: scene.params.clone(),
@@ -101,6 +108,7 @@ impl Pair {
             (fault.plant)(
                 event,
                 &self.before,
+                &self.places,
                 &mut self.unit,
                 &mut turned,
                 &mut self.reply,
@@ -118,7 +126,7 @@ impl Pair {
         let params = &mut self.params[..self.lent.block];
         let (c, s) = (&self.config, &mut self.state);
         let outcome = match event {
-            event if self.lent.records < header::RECORDS => too_few_records(event),
+            event if self.lent.records < self.places.room => too_few_records(event),
             Event::Stretch { bytes, room } => {
                 return independent::stretch(c, s, params, &mut self.other[..*room], bytes)
             }
@@ -173,11 +181,17 @@ impl Pair {
         if self.reply[self.sent..] != PATTERN[self.sent..] {
             return Some("the buffer behind the reply was written".to_string());
         }
-        difference(&self.chars, &self.state, &self.params, &self.unit)
-            .or_else(|| self.records_differ(event, answer.outcome))
+        difference(
+            &self.chars,
+            &self.places,
+            &self.state,
+            &self.params,
+            &self.unit,
+        )
+        .or_else(|| self.records_differ(event, answer.outcome))
     }
 
-    /// Only a record stored or released may change characters of records, those of no record too; nothing may those behind all records.
+    /// Only a record stored or released may change characters of records, those of no record too; nothing may those behind what is asked for.
     fn records_differ(&mut self, event: &Event, outcome: u8) -> Option<String> {
         let moves = match event {
             Event::Stretch { bytes, .. } => {
@@ -188,7 +202,8 @@ impl Pair {
         };
         let (was, is) = (&mut self.records, &self.unit.records);
         if moves {
-            was[..header::RECORDS].copy_from_slice(&is[..header::RECORDS]);
+            let room = self.places.room;
+            was[..room].copy_from_slice(&is[..room]);
         }
         (!same(was, is)).then(|| "a character of no record changed".to_string())
     }
@@ -220,7 +235,7 @@ impl Pair {
             Change::Block(at, bytes) => self.params[*at..*at + bytes.len()].copy_from_slice(bytes),
             Change::Records(file, held) => {
                 s.files[*file] = held.clone();
-                put_file(s, u, *file);
+                put_file(s, &self.places, u, *file);
                 self.records.copy_from_slice(&u.records);
             }
             Change::Lent(lent) => self.lent = *lent,

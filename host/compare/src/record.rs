@@ -2,7 +2,7 @@
 //! with all that it was given, its answer, and every character that it changed.
 
 use crate::board::header::{CONFIG, UNIT};
-use crate::board::{layout, valid, Unit, BLOCK, RECORDS};
+use crate::board::{layout, room, valid, Unit, BLOCK, RECORDS};
 use crate::event::Event;
 use crate::pair::{Pair, BUFFER};
 use crate::runs::Run;
@@ -10,7 +10,7 @@ use independent::Answer;
 use std::io::{Result, Write};
 
 /// What stands first: another number where the writing changes.
-const MARK: &[u8] = b"osturdam recording 1\n";
+const MARK: &[u8] = b"osturdam recording 2\n";
 /// Equal characters that part two changes.
 const APART: usize = 5;
 
@@ -91,6 +91,7 @@ impl<W: Write> Recording<W> {
         self.line(Line::Valid)?;
         self.out.write_all(&chars)?;
         self.out.write_all(&[valid(&chars)])?;
+        self.out.write_all(&(room(&chars) as u32).to_le_bytes())?;
         self.calls += 1;
         let mut before = Unit::filled(scene.fill);
         if !scene.fresh {

@@ -2,6 +2,7 @@
 
 use crate::board::header::{self, CALCULATIONS, FILES, INPUTS};
 use crate::board::{Equipment, Lent, BLOCK, RECORDS};
+use crate::places::Places;
 use crate::rng::Rng;
 use crate::shapes;
 use independent::State;
@@ -27,12 +28,7 @@ impl Scene {
         let equipment = equipment(rng);
         let lent = Lent {
             block: equipment.length.into(),
-            records: rng.pick(&[
-                header::RECORDS,
-                header::RECORDS,
-                header::RECORDS + 1,
-                RECORDS,
-            ]),
+            records: room(rng, Places::of(&equipment).room),
         };
         Scene {
             equipment,
@@ -153,10 +149,24 @@ fn equip_calculations(rng: &mut Rng, table: &mut [u8; INPUTS]) {
     }
 }
 
+/// Often just what is asked for, else more: a little, as much as any unit asks for, or all that is set aside.
+fn room(rng: &mut Rng, asked: usize) -> usize {
+    let any = rng.between(asked, RECORDS);
+    rng.pick(&[
+        asked,
+        asked,
+        asked,
+        asked + 1,
+        any,
+        header::RECORDS,
+        RECORDS,
+    ])
+}
+
 /// None, a few or all; sizes at which a dump just fits, or just does not, are common. Others have any number of values.
 fn equip_files(rng: &mut Rng, made: &mut Equipment) {
     rng.fill(&mut made.values);
-    let many = rng.pick(&[0, 1, 2, 3, 3, 4, 4, FILES]);
+    let many = rng.pick(&[0, 1, 2, 3, 3, 4, 4, 12, FILES]);
     for i in 0..many {
         let file = if many == FILES { i } else { rng.below(FILES) };
         made.files[file] = mark(rng);

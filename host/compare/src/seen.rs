@@ -9,7 +9,7 @@ use independent::Answer;
 type Known = fn(&Event, &Pair, &Answer) -> bool;
 
 /// What must have been seen.
-pub const SEEN: [(&str, Known); 35] = [
+pub const SEEN: [(&str, Known); 40] = [
     ("reply of 511 data characters", |_, _, a| a.sent == REPLY),
     ("table scan of 255 words", |_, p, a| {
         a.sent == REPLY - 1 && p.reply()[2] == 0x0A
@@ -38,9 +38,26 @@ pub const SEEN: [(&str, Known); 35] = [
         "buffer one too short",
         |e, _, _| matches!(e, Event::Stretch { room, .. } if *room == REPLY - 1),
     ),
-    ("more records lent than a unit has", |_, p, a| {
+    ("more room lent than any unit asks for", |_, p, a| {
         p.lent.records > RECORDS && a.outcome == DONE as u8
     }),
+    ("more room lent than asked for", |_, p, a| {
+        p.lent.records > p.places.room && p.lent.records < RECORDS && a.outcome == DONE as u8
+    }),
+    ("room exactly as asked for", |_, p, a| {
+        exact(p) && a.outcome == DONE as u8
+    }),
+    (
+        "room exactly as asked for, filled to its last",
+        |e, p, a| stored(e, a).is_some_and(|f| exact(p) && p.places.ends_with(f) && full(p, f)),
+    ),
+    ("record of a file of one value", |e, p, a| {
+        stored(e, a).is_some_and(|f| p.equipment.values[f] == 1)
+    }),
+    (
+        "record of a file behind one that is not equipped",
+        |e, p, a| stored(e, a).is_some_and(|f| p.places.skips_to(f)),
+    ),
     ("NOP with data", |_, p, a| {
         a.sent > 9 && p.reply()[2] & 0x40 != 0
     }),
@@ -120,6 +137,23 @@ fn served(answer: &Answer) -> bool {
         && outcome != CHECK_WRONG
         && outcome != NOT_CONFIGURED
         && outcome != BUFFER_SHORT
+}
+
+/// The file that a record was stored in.
+fn stored(event: &Event, answer: &Answer) -> Option<usize> {
+    match event {
+        Event::Store { file, .. } if answer.outcome == STORED as u8 => Some((*file).into()),
+        _ => None,
+    }
+}
+
+/// Whether there is not a character of records more than the configuration asks for, which has files.
+fn exact(pair: &Pair) -> bool {
+    pair.places.room > 0 && pair.lent.records == pair.places.room
+}
+
+fn full(pair: &Pair, file: usize) -> bool {
+    usize::from(pair.unit.memory.count(file)) == ROOM
 }
 
 fn heard(event: &Event) -> &[u8] {

@@ -1,7 +1,7 @@
 //! What a unit is equipped with.
 
 use crate::memory::{word_at, CONFIG};
-use crate::{header, raw, ControlOutput, File, Input, SpecialCalculation};
+use crate::{header, raw, ControlOutput, File, Input, SpecialCalculation, ROOM};
 
 /// An address that no unit has: with it every configuration is refused.
 const NO_UNIT: u16 = 0x7FF;
@@ -83,6 +83,28 @@ impl Config {
     /// Whether a unit can have it.
     pub fn valid(&self) -> bool {
         raw::valid(self)
+    }
+
+    /// How many characters of records a unit of it has: [`RECORDS`](crate::RECORDS) at most, if it is valid.
+    ///
+    /// ```
+    /// use osturdam::{Config, File, ROOM};
+    ///
+    /// // records of 8 and of 38 characters; what is not equipped takes nothing
+    /// let config = Config::new(1).file(File(3), 1).file(File(30), 16);
+    /// assert_eq!(config.room(), (ROOM * (8 + 38)) as u64);
+    /// ```
+    pub fn room(&self) -> u64 {
+        raw::room(self)
+    }
+
+    /// Where the records of a file start among those characters, and how long each is; 0 of a file that is not equipped.
+    pub(crate) fn place(&self, file: File) -> (usize, usize) {
+        let size = |file| {
+            let values = self.values(File(file));
+            values.map_or(0, |v| header::RECORD_HEAD as usize + 2 * usize::from(v))
+        };
+        (ROOM * (0..file.0).map(size).sum::<usize>(), size(file.0))
     }
 
     /// The unit's address.

@@ -54,6 +54,8 @@ pub const REPLY: usize = header::REPLY as usize;
 pub const BLOCK: usize = header::BLOCK as usize;
 /// How many records a file holds.
 pub const ROOM: usize = header::ROOM as usize;
+/// The most characters of records that a valid configuration asks for.
+pub const RECORDS: usize = header::RECORDS as usize;
 /// The most values in a record.
 pub const VALUES: usize = header::VALUES as usize;
 

@@ -4,14 +4,13 @@ use crate::{header, BLOCK};
 
 pub(crate) const CONFIG: usize = header::CONFIG as usize;
 pub(crate) const UNIT: usize = header::UNIT as usize;
-pub(crate) const RECORDS: usize = header::RECORDS as usize;
 
-/// What the library is lent.
+/// What the library is lent: records as many as the configuration asks for, or as a saved unit came with.
 #[derive(Clone, Debug, PartialEq, Eq)]
 pub(crate) struct Memory {
     pub unit: [u8; UNIT],
     pub block: [u8; BLOCK],
-    pub records: [u8; RECORDS],
+    pub records: Vec<u8>,
 }
 
 /// The word whose low character stands at this place.
@@ -30,14 +29,12 @@ pub(crate) fn fitting(length: u16) -> u64 {
 }
 
 impl Memory {
-    /// How many characters hold it.
-    pub const BYTES: usize = UNIT + BLOCK + RECORDS;
-
-    pub fn empty() -> Box<Memory> {
+    /// With so many characters of records.
+    pub fn empty(room: usize) -> Box<Memory> {
         Box::new(Memory {
             unit: [0; UNIT],
             block: [0; BLOCK],
-            records: [0; RECORDS],
+            records: vec![0; room],
         })
     }
 
@@ -52,23 +49,25 @@ impl Memory {
         fitting(word_at(&self.unit, header::AT_LENGTH as usize))
     }
 
-    /// Part after part, as C's `struct osturdam_together` lies.
-    pub fn to_bytes(&self) -> Box<[u8; Memory::BYTES]> {
-        let mut bytes = Box::new([0; Memory::BYTES]);
-        let parts = self.unit.iter().chain(&self.block).chain(&self.records);
-        for (place, byte) in bytes.iter_mut().zip(parts) {
-            *place = *byte;
-        }
-        bytes
+    /// How much room there is for records.
+    pub fn room(&self) -> u64 {
+        self.records.len() as u64
     }
 
-    pub fn from_bytes(bytes: &[u8; Memory::BYTES]) -> Box<Memory> {
-        let mut made = Memory::empty();
+    /// Part after part, as C's `struct osturdam_together` begins.
+    pub fn to_bytes(&self) -> Vec<u8> {
+        [&self.unit[..], &self.block, &self.records].concat()
+    }
+
+    /// The same back: what is missing is 0, and all behind the block are records.
+    pub fn from_bytes(bytes: &[u8]) -> Box<Memory> {
+        let records = bytes.get(UNIT + BLOCK..).unwrap_or(&[]);
+        let mut made = Memory::empty(records.len());
+        made.records.copy_from_slice(records);
         let mut rest = bytes.iter().copied();
         let mut next = || rest.next().unwrap_or(0);
         made.unit.fill_with(&mut next);
         made.block.fill_with(&mut next);
-        made.records.fill_with(&mut next);
         made
     }
 }

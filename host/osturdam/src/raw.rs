@@ -6,7 +6,7 @@
 //! pointer, has no global state and calls nothing back.
 #![allow(unsafe_code)]
 
-use crate::memory::{fitting, Memory, CONFIG, RECORDS, UNIT};
+use crate::memory::{fitting, Memory, CONFIG, UNIT};
 use crate::Config;
 
 type Chars = [u8; UNIT];
@@ -23,6 +23,7 @@ pub(crate) struct Turned {
 extern "C" {
     fn osturdam_check(start: u16, chars: *const u8, count: u64) -> u16;
     fn osturdam_valid(config: *const [u8; CONFIG]) -> u8;
+    fn osturdam_room(config: *const [u8; CONFIG]) -> u64;
     fn osturdam_fresh(
         unit: *mut Chars, block: *mut u8, length: u64, config: *const [u8; CONFIG]);
     fn osturdam_stretch(
@@ -45,8 +46,6 @@ extern "C" {
         file: u8, event: u8, values: *const u16, many: u64) -> u8;
 }
 
-const ROOM: u64 = RECORDS as u64;
-
 pub(crate) fn check(start: u16, chars: &[u8]) -> u16 {
     // SAFETY: above.
     unsafe { osturdam_check(start, chars.as_ptr(), chars.len() as u64) }
@@ -57,6 +56,11 @@ pub(crate) fn valid(config: &Config) -> bool {
     unsafe { osturdam_valid(config.chars()) != 0 }
 }
 
+pub(crate) fn room(config: &Config) -> u64 {
+    // SAFETY: above.
+    unsafe { osturdam_room(config.chars()) }
+}
+
 pub(crate) fn fresh(m: &mut Memory, config: &Config) {
     let lent = fitting(config.block_length());
     // SAFETY: above; `lent` is at most the length of `block`, whose rest is not lent.
@@ -64,12 +68,12 @@ pub(crate) fn fresh(m: &mut Memory, config: &Config) {
 }
 
 pub(crate) fn stretch(m: &mut Memory, heard: &[u8], buffer: &mut [u8]) -> Turned {
-    let (lent, mut turned) = (m.lent(), [0; 4]);
-    // SAFETY: above; `block`, `buffer` and `heard` are told with lengths of memory that they have.
+    let (lent, room, mut turned) = (m.lent(), m.room(), [0; 4]);
+    // SAFETY: above; `block`, `records`, `buffer` and `heard` are told with lengths of memory that they have.
     #[rustfmt::skip]
     let outcome = unsafe {
         osturdam_stretch(
-            &mut m.unit, m.block.as_mut_ptr(), lent, m.records.as_mut_ptr(), ROOM,
+            &mut m.unit, m.block.as_mut_ptr(), lent, m.records.as_mut_ptr(), room,
             buffer.as_mut_ptr(), buffer.len() as u64, heard.as_ptr(), heard.len() as u64, &mut turned)
     };
     let [low, high, action, output] = turned;
@@ -83,39 +87,39 @@ pub(crate) fn stretch(m: &mut Memory, heard: &[u8], buffer: &mut [u8]) -> Turned
 
 #[rustfmt::skip]
 pub(crate) fn elapsed(m: &mut Memory, ms: u32) -> u8 {
-    let lent = m.lent();
-    // SAFETY: above; `lent` is at most the length of `block`.
-    unsafe { osturdam_elapsed(&mut m.unit, m.block.as_ptr(), lent, m.records.as_ptr(), ROOM, ms) }
+    let (lent, room) = (m.lent(), m.room());
+    // SAFETY: above; `lent` is at most the length of `block`, `room` that of `records`.
+    unsafe { osturdam_elapsed(&mut m.unit, m.block.as_ptr(), lent, m.records.as_ptr(), room, ms) }
 }
 
 #[rustfmt::skip]
 pub(crate) fn set_word(m: &mut Memory, input: u8, word: u16) -> u8 {
-    let lent = m.lent();
-    // SAFETY: above; `lent` is at most the length of `block`.
-    unsafe { osturdam_set_word(&mut m.unit, m.block.as_ptr(), lent, m.records.as_ptr(), ROOM, input, word) }
+    let (lent, room) = (m.lent(), m.room());
+    // SAFETY: above; `lent` is at most the length of `block`, `room` that of `records`.
+    unsafe { osturdam_set_word(&mut m.unit, m.block.as_ptr(), lent, m.records.as_ptr(), room, input, word) }
 }
 
 #[rustfmt::skip]
 pub(crate) fn pulses(m: &mut Memory, input: u8, count: u16) -> u8 {
-    let lent = m.lent();
-    // SAFETY: above; `lent` is at most the length of `block`.
-    unsafe { osturdam_pulses(&mut m.unit, m.block.as_ptr(), lent, m.records.as_ptr(), ROOM, input, count) }
+    let (lent, room) = (m.lent(), m.room());
+    // SAFETY: above; `lent` is at most the length of `block`, `room` that of `records`.
+    unsafe { osturdam_pulses(&mut m.unit, m.block.as_ptr(), lent, m.records.as_ptr(), room, input, count) }
 }
 
 #[rustfmt::skip]
 pub(crate) fn set_value(m: &mut Memory, calculation: u8, value: u32) -> u8 {
-    let lent = m.lent();
-    // SAFETY: above; `lent` is at most the length of `block`.
-    unsafe { osturdam_set_value(&mut m.unit, m.block.as_ptr(), lent, m.records.as_ptr(), ROOM, calculation, value) }
+    let (lent, room) = (m.lent(), m.room());
+    // SAFETY: above; `lent` is at most the length of `block`, `room` that of `records`.
+    unsafe { osturdam_set_value(&mut m.unit, m.block.as_ptr(), lent, m.records.as_ptr(), room, calculation, value) }
 }
 
 #[rustfmt::skip]
 pub(crate) fn store_record(m: &mut Memory, file: u8, event: u8, values: &[u16]) -> u8 {
-    let lent = m.lent();
-    // SAFETY: above; `block` and `values` are told with lengths of memory that they have.
+    let (lent, room) = (m.lent(), m.room());
+    // SAFETY: above; `block`, `records` and `values` are told with lengths of memory that they have.
     unsafe {
         osturdam_store_record(
-            &mut m.unit, m.block.as_ptr(), lent, m.records.as_mut_ptr(), ROOM,
+            &mut m.unit, m.block.as_ptr(), lent, m.records.as_mut_ptr(), room,
             file, event, values.as_ptr(), values.len() as u64)
     }
 }

@@ -3,7 +3,7 @@
 use crate::memory::{word_at, Memory};
 use crate::{
     header, raw, Action, Config, File, Input, Kept, Ordinal, Outcome, SpecialCalculation, Stored,
-    Turn, ROOM,
+    Turn, RECORDS,
 };
 
 /// A remote unit: all its memory, in which its configuration lies too.
@@ -28,33 +28,34 @@ pub struct Unit {
 }
 
 impl Unit {
-    /// How many characters hold a unit.
-    pub const BYTES: usize = Memory::BYTES;
-
-    /// A fresh unit: clock on day 1, 00:00:00.000, all areas 0, no records.
+    /// A fresh unit: clock on day 1, 00:00:00.000, all areas 0, no records, and room for as many as the configuration asks for.
     pub fn fresh(config: Config) -> Unit {
-        let mut memory = Memory::empty();
+        // one that asks for more is not valid
+        let room = config.room().min(RECORDS as u64);
+        let mut memory = Memory::empty(room as usize);
         raw::fresh(&mut memory, &config);
         Unit { memory }
     }
 
-    /// The unit that was saved. Any characters may be here: one that is not in range is told by [`Outcome::NotConfigured`] at each event,
-    /// and none changes it. Its configuration is the one that it was saved with ([`Unit::config`]).
+    /// The unit that was saved. Any characters may be here, and any number of them: one that is not in range, is cut short or was saved by a
+    /// library of another layout is told by [`Outcome::NotConfigured`] at each event, and none changes it. Its configuration is the one that
+    /// it was saved with ([`Unit::config`]).
     ///
     /// ```
     /// use osturdam::{Outcome, Unit};
     ///
-    /// let mut worn = Unit::from_bytes(&[0xFF; Unit::BYTES]);
+    /// let mut worn = Unit::from_bytes(&[0xFF; 3000]);
     /// assert_eq!(worn.elapsed(1), Outcome::NotConfigured);
     /// ```
-    pub fn from_bytes(bytes: &[u8; Unit::BYTES]) -> Unit {
+    pub fn from_bytes(bytes: &[u8]) -> Unit {
         Unit {
             memory: Memory::from_bytes(bytes),
         }
     }
 
-    /// The whole unit with its configuration, to be stored before a reply is sent: the same characters on every machine.
-    pub fn to_bytes(&self) -> Box<[u8; Unit::BYTES]> {
+    /// The whole unit with its configuration, to be stored before a reply is sent: the same characters on every machine, and always as many
+    /// for a configuration.
+    pub fn to_bytes(&self) -> Vec<u8> {
         self.memory.to_bytes()
     }
 
@@ -104,13 +105,12 @@ impl Unit {
 
     /// The characters of a record that a file holds; record 0 is the oldest.
     pub fn record(&self, file: File, record: u8) -> Option<&[u8]> {
-        let values = self.config().values(file)?;
-        if record >= self.held(file)? {
+        let config = self.config();
+        if config.values(file).is_none() || record >= self.held(file)? {
             return None;
         }
-        let slot = header::RECORD_SLOT as usize;
-        let start = (usize::from(file.0) * ROOM + usize::from(record)) * slot;
-        let length = header::RECORD_HEAD as usize + 2 * usize::from(values);
+        let (base, length) = config.place(file);
+        let start = base + usize::from(record) * length;
         self.memory.records.get(start..start + length)
     }
 

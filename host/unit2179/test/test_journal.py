@@ -110,13 +110,13 @@ class Faults(JournalTest):
         unit, wire = self.begin(slow=True)
         before = self.files()['state']
         self.disk('fail rename 28')
-        self.pulses(unit, 1000)
+        self.pulses(unit, 1200)  # over half of a journal, even where no millisecond passes between two
         self.assertEqual(unit.errors().count('cannot be made anew: No space left'), 1)
         self.assertTrue(self.files()['state'] == before)
         unit.end(signal.SIGKILL)
         self.disk()
         unit, wire = self.begin(slow=True)
-        self.assertEqual(self.counted(wire), 1000)
+        self.assertEqual(self.counted(wire), 1200)
         self.assertTrue(self.files()['state'] != before)
 
 

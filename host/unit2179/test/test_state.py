@@ -12,8 +12,8 @@ READ = frame(A, UNIT, 0x28, 0x30, bytes([0, 0, 6, 5]))
 SCAN = frame(A, UNIT, 0x00, 0x01)
 
 
-def fnv(chars):
-    check = 0xCBF29CE484222325
+def fnv(chars, begun=0):
+    check = 0xCBF29CE484222325 ^ begun
     for c in chars:
         check = (check ^ c) * 0x100000001B3 % 2**64
     return check.to_bytes(8, 'little')
@@ -32,7 +32,7 @@ def parts_of(image):
     return found
 
 
-def image_of(parts, version=3):
+def image_of(parts, version=4):
     """A state file of parts, with the length and the check that it should have."""
     body = b''.join(name.encode().ljust(NAME, b'\0') + len(chars).to_bytes(4, 'little') + chars for name, chars in parts)
     image = b'unit2179' + version.to_bytes(2, 'little') + (TITLE + len(body) + CHECK).to_bytes(4, 'little') + body
@@ -40,8 +40,10 @@ def image_of(parts, version=3):
 
 
 class KeptTest(LiveTest):
+    config = SAMPLE
+
     def begin(self, *options):
-        unit = self.unit('--config', SAMPLE, '--state', 'state', '--events', 'events', *options)
+        unit = self.unit('--config', self.config, '--state', 'state', '--events', 'events', *options)
         return unit, self.wire(unit.name)
 
     def state(self):
@@ -54,7 +56,7 @@ class KeptTest(LiveTest):
 
     def refused_for(self, wrong, why):
         self.put_state(wrong)
-        status, said = self.refused('--config', SAMPLE, '--state', 'state')
+        status, said = self.refused('--config', self.config, '--state', 'state')
         self.assertEqual((status, said.startswith('state: ')), (4, True), said)
         self.assertIn(why, said)
         self.assertTrue(self.state() == wrong, 'it is left as it is')
@@ -101,7 +103,7 @@ class Kept(KeptTest):
         self.begin()[0].end()
         good = self.state()
         for wrong, why in ((good[:-1], 'not whole'), (good + b'\0', 'not whole'), (b'', 'not whole'), (good[:500] + b'\1' + good[501:], 'damaged'),
-                           (b'U' + good[1:], 'no state file'), (image_of(parts_of(good), 4), 'version 4')):
+                           (b'U' + good[1:], 'no state file'), (image_of(parts_of(good), 5), 'version 5')):
             with self.subTest(why):
                 self.refused_for(wrong, why)
         unit, wire = self.begin('--fresh')
@@ -204,7 +206,7 @@ class Parts(KeptTest):
                 self.refused_for(bytes(wrong), 'cannot be used')
 
 
-class Older(KeptTest):
+class First(KeptTest):
     """A file of version 1, which a unit of the sample's configuration left behind."""
 
     def setUp(self):
@@ -229,24 +231,10 @@ class Older(KeptTest):
         unit.end()
         self.assertTrue(image_of(parts_of(self.state())) == self.state())
 
-    def test_a_file_of_version_2_is_read(self):
-        unit, wire = self.begin()
-        self.tell('events', 'word 30h 1234h', 'record 2 9 1 2 3')
-        until(lambda: len(unit.log('E')) == 2)
-        unit.end()
-        parts = [part for part in parts_of(self.state()) if not part[0].startswith('journal.')]
-        for name in os.listdir(self.folder):
-            if name.startswith('state.'):
-                os.remove(self.path(name))
-        self.put_state(image_of(parts, 2))
-        unit, wire = self.begin()
-        self.assertEqual(wire.ask(SCAN).data, b'\x34\x12\0\0')
-        self.assertEqual(wire.ask(frame(A, UNIT, 0x04, 0x42)).data[0], 1)
-
     def test_it_is_refused_where_it_cannot_be_true(self):
         self.refused_for(self.old[:700] + b'\1' + self.old[701:], 'damaged')
         self.refused_for(self.old[:-1], 'not whole')
-        for version in (0, 2, 3, 4):
+        for version in (0, 2, 3, 4, 5):
             other = self.old[:8] + bytes([version]) + self.old[9:-CHECK]
             self.refused_for(other + fnv(other), 'cannot be used')
         for many in (len(self.old) - 40, len(self.old) + 40):

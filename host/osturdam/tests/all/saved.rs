@@ -3,6 +3,7 @@
 use crate::line::{answered, asked, UNIT};
 use osturdam::{Clock, Config, ControlOutput, File, Hold, Input, Mark, Master, Memory, Ordinal};
 use osturdam::{Outcome, Pending, Select, SpecialCalculation, Stored, Unit, Write};
+use osturdam::{RECORDS, ROOM, VALUES};
 
 fn equipped() -> Config {
     Config::new(UNIT)
@@ -119,4 +120,58 @@ fn what_is_held_is_read() {
         (unit.block(Ordinal(2)), unit.block(Ordinal(255))),
         (None, None)
     );
+}
+
+/// Files of several lengths, with others between them that are not equipped.
+const FILES: [(u8, u8); 4] = [(0, 16), (1, 1), (7, 3), (31, 2)];
+
+fn of_many_lengths() -> Unit {
+    let equip = |config: Config, (file, values)| config.file(File(file), values);
+    Unit::fresh(FILES.into_iter().fold(Config::new(UNIT), equip))
+}
+
+#[test]
+fn records_of_every_length_are_read_at_their_places() {
+    let mut unit = of_many_lengths();
+    for n in 0..ROOM as u8 {
+        for (file, values) in FILES {
+            let given = vec![u16::from_le_bytes([n, file]); values.into()];
+            assert_eq!(unit.store_record(File(file), n, &given), Stored::Stored);
+        }
+    }
+    for n in 0..ROOM as u8 {
+        for (file, values) in FILES {
+            let record = unit.record(File(file), n).unwrap_or(&[]);
+            assert_eq!((record.len(), record[0]), (6 + 2 * usize::from(values), n));
+            assert_eq!(record[6..], [n, file].repeat(values.into()));
+        }
+    }
+    assert_eq!(Unit::from_bytes(&unit.to_bytes()), unit);
+}
+
+#[test]
+fn a_unit_has_no_more_room_than_it_asks_for() {
+    let none = Unit::fresh(Config::new(UNIT)).to_bytes().len();
+    let sizes: usize = FILES.iter().map(|(_, v)| 6 + 2 * usize::from(*v)).sum();
+    let unit = of_many_lengths();
+    assert_eq!(unit.config().room(), (ROOM * sizes) as u64);
+    assert_eq!(unit.to_bytes().len(), none + ROOM * sizes);
+    let most = (0..32).fold(Config::new(UNIT), |c, f| c.file(File(f), VALUES as u8));
+    assert_eq!(most.room(), RECORDS as u64);
+    assert_eq!(Unit::fresh(most).elapsed(0), Outcome::Done);
+}
+
+#[test]
+fn one_that_is_cut_short_is_refused_and_left() {
+    let whole = of_many_lengths().to_bytes();
+    for length in [0, 1, 2474, 2474 + 512, whole.len() - 1] {
+        let mut cut = Unit::from_bytes(&whole[..length]);
+        let before = cut.to_bytes();
+        assert_eq!(cut.elapsed(1), Outcome::NotConfigured, "{length} of them");
+        assert_eq!(cut.store_record(File(1), 1, &[1]), Stored::NotConfigured);
+        assert_eq!(cut.to_bytes(), before);
+    }
+    let mut longer = Unit::from_bytes(&[&whole[..], &[0xEE; 9]].concat());
+    assert_eq!(longer.store_record(File(31), 1, &[1, 2]), Stored::Stored);
+    assert_eq!(longer.to_bytes()[whole.len()..], [0xEE; 9]);
 }

@@ -106,7 +106,7 @@ returns-3 c =
     let ks = numbersIn u in
     let i = innerIn u (s .args .block .now) (s .args .records .now) in (
       λ y stands.
-          unit-marked (s .args .s .now) u _ _ _
+          unit-marked (s .args .s .now) _ u _ _
           (judged-broken (configIn u) i (s .args .s .now) (portIn ks .mark) (portIn ks) (readable-written ks stands) (sym (c .before .before .before .before .before .hear .ensures) ∙ c .before .before .before .enum-told .given .1) (c .before .quiet .ensures))
           (c .marked .ensures),
       unshifted-numbers u _ (numbers-only _ _ (c .marked .ensures .1)) .steady,
@@ -119,7 +119,7 @@ returns-4 c =
     let ks = numbersIn u in
     let i = innerIn u (s .args .block .now) (s .args .records .now) in (
       λ y stands.
-          unit-marked (s .args .s .now) u _ _ _
+          unit-marked (s .args .s .now) _ u _ _
           (judged-wrong (configIn u) i (s .args .s .now) (portIn ks .mark) (portIn ks) (readable-written ks stands) (sym (c .before .before .before .before .before .hear .ensures) ∙ c .before .before .before .enum-told2 .given .1) (c .before .quiet2 .ensures))
           (c .marked2 .ensures),
       unshifted-numbers u _ (numbers-only _ _ (c .marked2 .ensures .1)) .steady,
@@ -132,7 +132,7 @@ returns-5 c =
     let ks = numbersIn u in
     let i = innerIn u (s .args .block .now) (s .args .records .now) in (
       λ y stands.
-          unit-marked (s .args .s .now) u _ _ _
+          unit-marked (s .args .s .now) _ u _ _
           (judged-other (configIn u) i (s .args .s .now) (portIn ks .mark) (portIn ks) _ (sym (c .before .before .before .before .before .before .before .before .before .before .before .before .hear .ensures) ∙ c .before .before .before .before .before .before .before .before .before .before .heard .given .1) (c .before .before .before .before .before .before .before .before .data-of .ensures) (c .before .before .before .before .before .before .before .unit-of .ensures) (readable-written ks stands)
           (λ e. c .before .before .before .before .if1 .left (e ∙ sym (c .before .before .before .before .before .number-of .ensures))) (c .before .before .before .if2 .left)
           (c .before .quiet3 .ensures))

@@ -1,0 +1,26 @@
+#include "older.h"
+
+#include <string.h>
+
+_Static_assert((int)OLDER_RECORDS == (int)OSTURDAM_RECORDS, "records of an older version are read into a unit's memory");
+
+static uint8_t packed[OSTURDAM_RECORDS]; /* 38 KB, which a small stack may not have */
+
+/* A count that no unit has is told later, when the unit is judged. */
+static void repack_file(const struct osturdam_together *all, uint8_t file)
+{
+    const struct osturdam_config *c = &all->unit.config;
+    for (uint8_t i = 0; i < osturdam_count_of(&all->unit, file) && i < OSTURDAM_ROOM; i++)
+        memcpy(packed + osturdam_record_place(c, file, i), all->records + (file * OSTURDAM_ROOM + i) * OLDER_SLOT,
+               osturdam_record_length(c, file));
+}
+
+void older_repack(struct kept *kept)
+{
+    memset(packed, 0, sizeof packed);
+    for (uint8_t file = 0; file < OSTURDAM_FILES; file++)
+        repack_file(&kept->all, file);
+    memcpy(kept->all.records, packed, sizeof packed);
+    osturdam_word_to(kept->all.unit.layout, OSTURDAM_LAYOUT);
+    memset(kept->history, 0, sizeof kept->history);
+}

@@ -1,0 +1,138 @@
+"""State files and journals of versions 2 and 3, in which each history file had 32 slots of 38 characters, equipped or not."""
+import os
+import signal
+
+from live import A, SAMPLE, UNIT, frame, until
+from test_state import CHECK, KeptTest, fnv, image_of, parts_of
+
+SLOT, ROOM, RECORDS, HEAD, JOURNAL = 38, 32, 38912, 18, 131072
+FILES = {0: 16, 1: 1, 7: 3, 8: 1, 31: 2}  # a file's number, and how many values its records have
+PACKED = sum(ROOM * (6 + 2 * values) for values in FILES.values())
+MANY = {0: 32, 1: 32, 7: 0, 8: 5, 31: 31}  # how many records each holds
+
+
+def record(file, number):
+    """A record that no other is like."""
+    values = b''.join((256 * file + 100 * number + n).to_bytes(2, 'little') for n in range(FILES[file]))
+    return bytes([1 + number, 0, 1, 2, 3, file]) + values
+
+
+def entry(history, number, changes):
+    """An entry of a journal, which stands there twice. A change: part, where in it, the characters."""
+    body = b''.join(bytes([part]) + at.to_bytes(2, 'little') + len(chars).to_bytes(2, 'little') + chars for part, at, chars in changes)
+    made = b'EN' + (14 + len(body) + CHECK).to_bytes(4, 'little') + number.to_bytes(8, 'little') + body
+    return 2 * (made + fnv(made, int.from_bytes(history, 'little')))
+
+
+class Older(KeptTest):
+    def setUp(self):
+        super().setUp()
+        self.config = self.write('conf', f'unit {UNIT}\ninputs 30h\n' + ''.join(f'file {f} {values}\n' for f, values in FILES.items()))
+
+    def older(self, **other):
+        """The parts of a file of version 3 of this configuration, with records in it; some of them are others."""
+        unit, _ = self.begin('--fresh')
+        unit.end()
+        area, counts = bytearray(b'\xEE' * RECORDS), bytearray(32)
+        for file, many in MANY.items():
+            counts[file] = many
+            for i in range(many):
+                at = (file * ROOM + i) * SLOT
+                area[at:at + len(record(file, i))] = record(file, i)
+        made = {**dict(parts_of(self.state())), 'layout': b'\1\0', 'records': bytes(area), 'counts': bytes(counts), **other}
+        return list(made.items())
+
+    def put_journals(self, chars):
+        for name, held in (('a', chars), ('b', b'')):
+            with open(self.path(f'state.journal-{name}'), 'wb') as file:
+                file.write((b'unit2179 journal\1\0' + held).ljust(JOURNAL, b'\0'))
+
+    def drained(self, wire, file):
+        """All records of a file, oldest first: each dump acknowledges the one before."""
+        found, more = [], True
+        while more:
+            data = wire.ask(frame(A, UNIT, 0x04, 0x60 + file)).data
+            size = 6 + 2 * FILES[file]
+            found += [data[at:at + size] for at in range(1, len(data), size)]
+            more = data[0] & 0x80
+        return found
+
+    def all_held(self):
+        """What a unit comes back with."""
+        unit, wire = self.begin()
+        self.assertIn('the kept state goes on', unit.errors())
+        found = {file: self.drained(wire, file) for file in FILES}
+        unit.end(signal.SIGKILL)
+        return found
+
+    def kept_as_now(self):
+        parts = dict(parts_of(self.state()))
+        self.assertTrue(image_of(parts.items()) == self.state())
+        self.assertEqual((parts['layout'], len(parts['records'])), (b'\2\0', PACKED))
+
+
+class Repacked(Older):
+    wanted = {file: [record(file, i) for i in range(many)] for file, many in MANY.items()}
+
+    def test_every_record_comes_out_in_order(self):
+        self.put_state(image_of(self.older(), 3))
+        self.assertEqual(self.all_held(), self.wanted)
+        self.kept_as_now()
+
+    def test_a_file_of_version_2_is_read(self):
+        parts = [part for part in self.older() if not part[0].startswith('journal.')]
+        for name in [name for name in os.listdir(self.folder) if name.startswith('state.')]:
+            os.remove(self.path(name))
+        self.put_state(image_of(parts, 2))
+        self.assertEqual(self.all_held(), self.wanted)
+        self.kept_as_now()
+
+    def test_a_new_record_finds_its_place_behind_them(self):
+        self.put_state(image_of(self.older(), 3))
+        unit, wire = self.begin()
+        self.tell('events', 'record 8 9 1', 'record 7 9 1 2 3', 'record 1 9 1')
+        until(lambda: len(unit.log('E')) == 3)
+        unit.end(signal.SIGKILL)
+        found = self.all_held()
+        self.assertEqual([len(found[f]) for f in FILES], [32, 32, 1, 6, 31], 'the file that was full takes none')
+        self.assertEqual((found[7][0][6:], found[8][:5]), (b'\1\0\2\0\3\0', self.wanted[8]))
+
+    def test_entries_behind_it_name_places_as_they_were(self):
+        parts = self.older()
+        names = [name for name, _ in parts]
+        history, last = dict(parts)['journal.history'], int.from_bytes(dict(parts)['journal.entry'], 'little')
+        counts = names.index('counts')
+        changes = [(names.index('records'), (8 * ROOM + 5) * SLOT, record(8, 5)), (counts, 8, b'\6')]
+        more = [(names.index('records'), (7 * ROOM + n) * SLOT, record(7, n)) for n in range(2)] + [(counts, 7, b'\2')]
+        journal = entry(history, last + 1, changes) + entry(history, last + 2, more)
+        self.put_state(image_of(parts, 3))
+        self.put_journals(journal)
+        wanted = {**self.wanted, 8: [record(8, i) for i in range(6)], 7: [record(7, 0), record(7, 1)]}
+        unit, _ = self.begin()
+        unit.end(signal.SIGKILL)
+        self.kept_as_now()
+        self.put_journals(journal)  # as where the process ended before it emptied them: no entry is taken once more
+        self.assertEqual(self.all_held(), wanted)
+
+    def test_an_entry_that_changes_the_configuration_is_refused(self):
+        parts = self.older()
+        history, last = dict(parts)['journal.history'], int.from_bytes(dict(parts)['journal.entry'], 'little')
+        self.put_journals(entry(history, last + 1, [([name for name, _ in parts].index('config.values'), 0, b'\1')]))
+        self.refused_for(image_of(parts, 3), 'a change that no unit has')
+
+
+class Refused(Older):
+    def test_it_is_never_misread(self):
+        good = self.older()
+        self.refused_for(image_of(good, 4), 'the layout 1')
+        self.refused_for(image_of(self.older(layout=b'\2\0'), 3), 'the layout 2')
+        self.refused_for(image_of(self.older(records=bytes(PACKED)), 3), "'records' has not 38912 ")
+        self.refused_for(image_of(self.older(layout=b'\2\0'), 4), f"'records' has not {PACKED} ")
+        self.config = SAMPLE
+        self.refused_for(image_of(good, 3), 'another configuration')
+
+    def test_counts_that_no_unit_has_are_refused(self):
+        for file, many in ((0, 33), (1, 255), (2, 1)):
+            counts = bytearray(32)
+            counts[file] = many
+            self.refused_for(image_of(self.older(counts=bytes(counts)), 3), 'no unit keeps')
