@@ -17,8 +17,11 @@ use Rattle.layout.specs.Regions.{startIn, regionIn, setAt}
 use Rattle.layout.specs.Unit.{Unit, Renumbered, NumbersOnly, numbersIn, unitSizes, unitLong, regionStart, layoutRegion, numberRegion, lengthRegion, inputsRegion, outputsRegion, calculationsRegion, filesRegion, valuesRegion, numbersRegion, wordsRegion, resultsRegion, fixedRegion, countsRegion, wordsIn, resultsIn, configFrom, unitFrom, unitIn, configIn, setNumbers, setWords, setValues, setFixed, setCounts, putIn, putNumber, putWord, putValue, putFixed, putCount, putCounts}
 use Rattle.layout.proofs.RegionLaws.{regions-put, region-whole, region-at, region-past, region-part, region-own, region-most}
 
--- how long a lent unit is: UNIT of src/lib.rt
-pub unit-long : (u : List ℕ) → length u ≡ 2474 → length u ≡ unitLong
+-- how long a lent unit is: UNIT of src/lib.rt, as the prover tells the length of an array
+abbrev pub unitFigure : ℕ
+unitFigure = 2474
+
+pub unit-long : (u : List ℕ) → length u ≡ unitFigure → length u ≡ unitLong
 unfolding startIn unitSizes
 unit-long u e = e
 

@@ -40,12 +40,13 @@ use Rattle.model.proofs.Port as T
 use Rattle.model.proofs.Port.Laws as T′
 use Rattle.layout.specs.Numbers.{portIn, putPort}
 use Rattle.layout.specs.Unit.{numbersIn, Renumbered}
+use Rattle.layout.proofs.UnitLaws.{unitFigure}
 use Rattle.layout.proofs.port_in as in-it
 use Rattle.layout.proofs.keep_port as keeps
 
 -- a unit's memory
 abbrev pub U : RattleType
-U = Array u8 tt 2474
+U = Array u8 tt unitFigure
 
 -- the machine value of a port
 abbrev pub mach : Port → Val

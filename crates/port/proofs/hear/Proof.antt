@@ -49,6 +49,7 @@ use Rattle.model.proofs.Outcome as O
 use Rattle.model.proofs.Outcome.Laws as O′
 use Rattle.model.proofs.Port as T
 use Rattle.model.proofs.Port.Laws as T′
+use Rattle.layout.proofs.UnitLaws.{unitFigure}
 use Rattle.layout.proofs.port_in as in-it
 use Rattle.layout.proofs.port_in.Symbol as in-def
 use Rattle.layout.proofs.port_in.Symbol.{name as #in}
@@ -70,7 +71,7 @@ abbrev Arg : Type 0
 Arg = RefT (List ℕ) × (ℕ × (Outcome × (Unit {0})))
 
 abbrev unitS : Slot 1
-unitS = ArrayOf (plain (λ _. u8)) (λ _. tt) 2474
+unitS = ArrayOf (plain (λ _. u8)) (λ _. tt) unitFigure
 
 abbrev stayed : Stays (f.ended .signature .params) (f.ended .kept)
 stayed = (gave-ref (0 ∷ []) tt unitS, (stay-none (λ _. usize) yes, (stay-none (λ _. O.the-row) yes, tt)))

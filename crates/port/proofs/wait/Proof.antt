@@ -45,6 +45,7 @@ use Rattle.layout.specs.Numbers.{portIn, putPort}
 use Rattle.layout.specs.Unit.{numbersIn, Renumbered}
 use Rattle.model.proofs.Port as T
 use Rattle.model.proofs.Port.Laws as T′
+use Rattle.layout.proofs.UnitLaws.{unitFigure}
 use Rattle.layout.proofs.port_in as in-it
 use Rattle.layout.proofs.port_in.Symbol as in-def
 use Rattle.layout.proofs.port_in.Symbol.{name as #in}
@@ -66,7 +67,7 @@ abbrev Arg : Type 0
 Arg = RefT (List ℕ) × (ℕ × (Unit {0}))
 
 abbrev unitS : Slot 1
-unitS = ArrayOf (plain (λ _. u8)) (λ _. tt) 2474
+unitS = ArrayOf (plain (λ _. u8)) (λ _. tt) unitFigure
 
 abbrev stayed : Stays (f.ended .signature .params) (f.ended .kept)
 stayed = (gave-ref (0 ∷ []) tt unitS, (stay-none (λ _. u32) yes, tt))
