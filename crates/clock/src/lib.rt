@@ -24,11 +24,21 @@ pub struct Set {
     pub clock: Clock,
 }
 
+// The last two digits; a clock in range has no more.
+fn last_two(n: u8) -> u8
+    ensures { λ r. ⌜ r ≡ n % 100 ⌝ }
+{
+    if n < 100 {
+        return n;
+    }
+    n % 100
+}
+
 // Of a number over 99 the last two digits: a character holds no more.
 pub fn to_bcd(n: u8) -> u8
     ensures { λ r. ⌜ r ≡ bcd (n % 100) ⌝ }
 {
-    let m = n % 100;
+    let m = last_two(n);
     m / 10 * 16 + m % 10
 }
 
