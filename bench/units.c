@@ -11,7 +11,7 @@
 
 static struct osturdam_turned hear(struct units *u, const uint8_t *s, size_t n, uint8_t *buffer)
 {
-    struct osturdam_heard heard = {.chars = s, .count = n, .buffer = buffer, .room = OSTURDAM_REPLY};
+    struct osturdam_heard heard = {.chars = s, .count = n, .buffer = buffer, .room = OSTURDAM_REPLY, .lag = LAG};
     struct osturdam_turned turned;
     osturdam_hear(&u->lent, &heard, &turned);
     return turned;
@@ -24,12 +24,12 @@ COUNTED struct osturdam_turned library_counted(struct units *u, const uint8_t *s
 
 COUNTED struct plain_turned plain_counted(struct units *u, const uint8_t *s, size_t n, uint8_t *buffer)
 {
-    return plain_stretch(&u->plain_config, &u->plain, s, n, buffer, OSTURDAM_REPLY);
+    return plain_stretch(&u->plain_config, &u->plain, s, n, buffer, OSTURDAM_REPLY, LAG);
 }
 
 COUNTED struct plain_turned rust_counted(struct units *u, const uint8_t *s, size_t n, uint8_t *buffer)
 {
-    return rust_stretch(u->rust, s, n, buffer, OSTURDAM_REPLY);
+    return rust_stretch(u->rust, s, n, buffer, OSTURDAM_REPLY, LAG);
 }
 
 COUNTED uint8_t library_store(struct units *u, uint8_t file, uint8_t event, const uint16_t *given, size_t many)
@@ -162,8 +162,8 @@ uint8_t stretch(struct units *u, const uint8_t *s, size_t n, int counted)
         rust = rust_counted(u, s, n, c);
     } else {
         library = hear(u, s, n, a);
-        plain = plain_stretch(&u->plain_config, &u->plain, s, n, b, sizeof b);
-        rust = rust_stretch(u->rust, s, n, c, sizeof c);
+        plain = plain_stretch(&u->plain_config, &u->plain, s, n, b, sizeof b, LAG);
+        rust = rust_stretch(u->rust, s, n, c, sizeof c, LAG);
     }
     agreed("sent", library.sent, plain.sent, rust.sent);
     agreed("action", library.action, plain.action, rust.action);

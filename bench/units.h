@@ -5,9 +5,12 @@
 
 #include "functions/plain.h"
 
+// Every stretch comes with the lag that a Set Time has at 9,600 baud: eleven characters and an idle mark.
+enum { LAG = 15 };
+
 struct rust_unit;
 struct rust_unit *rust_fresh(const struct plain_config *c);
-struct plain_turned rust_stretch(struct rust_unit *u, const uint8_t *stretch, size_t heard, uint8_t *buffer, size_t room);
+struct plain_turned rust_stretch(struct rust_unit *u, const uint8_t *stretch, size_t heard, uint8_t *buffer, size_t room, uint32_t lag);
 uint8_t rust_elapsed(struct rust_unit *u, uint32_t ms);
 uint8_t rust_set_word(struct rust_unit *u, uint8_t input, uint16_t word);
 uint8_t rust_pulses(struct rust_unit *u, uint8_t input, uint16_t count);

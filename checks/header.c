@@ -12,6 +12,7 @@ static struct osturdam_config config;
 static struct osturdam_together all;
 static struct osturdam_lent lent;
 static uint8_t buffer[OSTURDAM_REPLY];
+static uint32_t lag; /* of the stretches to come */
 static int failed;
 
 static void expect(const char *what, int wanted, int got)
@@ -54,7 +55,7 @@ static void begin(void)
 
 static struct osturdam_turned heard(const uint8_t *chars, size_t count, size_t room)
 {
-    struct osturdam_heard stretch = {.chars = chars, .count = count, .buffer = buffer, .room = room};
+    struct osturdam_heard stretch = {.chars = chars, .count = count, .buffer = buffer, .room = room, .lag = lag};
     struct osturdam_turned turned;
     enum osturdam_outcome outcome = osturdam_hear(&lent, &stretch, &turned);
     expect("the outcome told", outcome, turned.outcome);
@@ -266,6 +267,30 @@ static void clock_and_port(void)
     expect("the broadcast bit", 1, kept(OSTURDAM_STATUS_BROADCAST));
 }
 
+/* A Set Time is taken with every lag to the limit, which carries the clock over the year's end; no other stretch looks at it. */
+static void lags(void)
+{
+    static const char late[] = "\x03\x66\x23\x59\x59\x03\xE7"; /* day 366, 23:59:59.999 */
+    begin();
+    lag = OSTURDAM_LAG_MS + 1;
+    EXPECT(OSTURDAM_NOT_VALID, ask(ONE, 0x20, 0x38, late, 7));
+    EXPECT(OSTURDAM_BROADCAST_REFUSED, to(LINE_BROADCAST, ONE, 0x20, 0x38, late, 7).outcome);
+    EXPECT(OSTURDAM_WRONG_COUNT, ask(ONE, 0x20, 0x38, late, 6));
+    expect("the day", 1, kept(OSTURDAM_DAY));
+    lag = UINT32_MAX;
+    EXPECT(OSTURDAM_NOT_VALID, ask(ONE, 0x20, 0x38, late, 7));
+    EXPECT(OSTURDAM_DONE, ask(ONE, 0x28, 0x31, NULL, 0));
+    lag = OSTURDAM_LAG_MS;
+    EXPECT(OSTURDAM_DONE, ask(ONE, 0x20, 0x38, late, 7));
+    expect("the day", 1, kept(OSTURDAM_DAY));
+    expect("the second", 9, kept(OSTURDAM_SECOND));
+    expect("the millisecond", 999, kept(OSTURDAM_MS));
+    lag = 0;
+    EXPECT(OSTURDAM_BROADCAST_DONE, to(LINE_BROADCAST, ONE, 0x20, 0x38, late, 7).outcome);
+    expect("the day", 366, kept(OSTURDAM_DAY));
+    expect("the millisecond", 999, kept(OSTURDAM_MS));
+}
+
 /* Every limit of a configuration is taken by `begin`; one more is not. */
 static void configurations(void)
 {
@@ -341,6 +366,7 @@ int main(void)
     most_records();
     points();
     clock_and_port();
+    lags();
     configurations();
     layouts();
     return failed;

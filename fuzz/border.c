@@ -22,6 +22,7 @@ enum { COMMANDS = sizeof commands / sizeof commands[0] };
 
 static const uint8_t *input;
 static size_t left;
+static uint32_t lag; /* of the stretches to come */
 
 int LLVMFuzzerTestOneInput(const uint8_t *data, size_t size);
 
@@ -128,6 +129,7 @@ static void read_frame(struct call *c)
     lent_place(STRETCH, length);
     memcpy(lent[STRETCH].at, frame, length);
     c->kind = HEAR;
+    c->value = lag;
 }
 
 static void read_stretch(struct call *c)
@@ -135,6 +137,7 @@ static void read_stretch(struct call *c)
     lent_place(STRETCH, next(2) % (lent_most(STRETCH) + 1));
     read_chars(lent[STRETCH].at, lent[STRETCH].length);
     c->kind = HEAR;
+    c->value = lag;
 }
 
 /* A record, mostly with as many values as its file has. */
@@ -209,6 +212,7 @@ static bool read_event(struct call *c)
 {
     unsigned kind = next(1) % 16;
     switch (kind) {
+    case 5: lag = next(4); return false;
     case 6: read_stretch(c); return true;
     case 7: read_local(c, ELAPSE); return true;
     case 8: read_local(c, SET_WORD); return true;
@@ -230,6 +234,7 @@ int LLVMFuzzerTestOneInput(const uint8_t *data, size_t size)
         lent_begin();
     input = data;
     left = size;
+    lag = 0;
     begin(&c);
     for (int i = 0; i < MOST_EVENTS && left > 0; i++)
         if (read_event(&c))

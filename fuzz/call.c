@@ -83,7 +83,8 @@ static struct answer heard(const struct call *c)
 {
     const uint8_t *turned = lent[TURNED].at;
     struct answer a = {0, 0, 0, 0};
-    a.outcome = osturdam_stretch(LENT, place(c, BUFFER), lent[BUFFER].length, place(c, STRETCH), lent[STRETCH].length, lent[TURNED].at);
+    a.outcome =
+        osturdam_stretch(LENT, place(c, BUFFER), lent[BUFFER].length, place(c, STRETCH), lent[STRETCH].length, c->value, lent[TURNED].at);
     a.sent = osturdam_word_at(turned);
     a.action = turned[2];
     a.output = turned[3];
@@ -191,6 +192,28 @@ static void check_reply(const struct call *c, const struct answer *t)
     hold(t->action == OSTURDAM_REST || (t->outcome == OSTURDAM_DONE && equipped), c, "no such operation", "");
 }
 
+/* Whether a stretch is a Set Time, as far as its head says. */
+static bool sets_time(void)
+{
+    const uint8_t *s = lent[STRETCH].at;
+    return lent[STRETCH].length > 3 && s[2] == 0x20 && s[3] == 0x38;
+}
+
+static void check_lag(const struct call *c, uint8_t outcome)
+{
+    bool done = outcome == OSTURDAM_DONE || outcome == OSTURDAM_BROADCAST_DONE;
+    hold(!done || !sets_time() || c->value <= OSTURDAM_LAG_MS, c, "the time was set with a lag that is too long", "");
+}
+
+/* The same call once more, but with another lag where no Set Time was heard: that must change nothing. */
+static struct answer made_again(const struct call *c)
+{
+    struct call again = *c;
+    if (c->kind == HEAR && !sets_time())
+        again.value = ~c->value;
+    return made(&again);
+}
+
 /* Any stretch has the check of a plain loop, and that of its two parts in turn, wherever it is cut and whatever the start. */
 static void check_parts(const struct call *c)
 {
@@ -220,6 +243,7 @@ static void check_answer(const struct call *c, const struct answer *t)
     if (c->kind == HEAR) {
         check_parts(c);
         check_reply(c, t);
+        check_lag(c, t->outcome);
     } else if (!refused) {
         check_local(c, t->outcome);
     }
@@ -247,7 +271,7 @@ void call_checked(const struct call *c)
         check_answer(c, &first);
     }
     picture_restore(before);
-    struct answer again = made(c);
+    struct answer again = made_again(c);
     enum part part = picture_differs(after);
     hold(same(&first, &again), c, "another answer the second time", "");
     hold(part == PARTS, c, "another memory the second time:", part == PARTS ? "" : lent_name(part));

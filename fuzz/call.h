@@ -15,7 +15,7 @@ struct call {
     bool nulls;     /* parts of no length are lent as null */
     uint8_t number; /* of an input, calculation or file */
     uint8_t event;
-    uint32_t value; /* milliseconds, word, count or value */
+    uint32_t value; /* milliseconds, word, count or value; of a stretch its lag */
 };
 
 /* Calls twice from the same memory and checks; what fails is printed and ends the program. */

@@ -5,7 +5,7 @@
 
 #define PARAMETERS                                                                                                          \
     uint8_t *unit, uint8_t *block, uint64_t length, uint8_t *records, uint64_t room, uint8_t *buffer, uint64_t buffer_room, \
-        const uint8_t *chars, uint64_t count, uint8_t *turned
+        const uint8_t *chars, uint64_t count, uint32_t lag, uint8_t *turned
 
 uint8_t __real_osturdam_stretch(PARAMETERS);
 uint8_t __wrap_osturdam_stretch(PARAMETERS);
@@ -13,7 +13,7 @@ uint8_t __wrap_osturdam_stretch(PARAMETERS);
 uint8_t __wrap_osturdam_stretch(PARAMETERS)
 {
     static unsigned calls;
-    uint8_t outcome = __real_osturdam_stretch(unit, block, length, records, room, buffer, buffer_room, chars, count, turned);
+    uint8_t outcome = __real_osturdam_stretch(unit, block, length, records, room, buffer, buffer_room, chars, count, lag, turned);
     uint16_t sent = osturdam_word_at(turned);
     bool answered = sent > 0, done = outcome == OSTURDAM_DONE, refused = outcome == OSTURDAM_NOT_CONFIGURED;
     uint64_t asked = osturdam_room(unit + OSTURDAM_AT_NUMBER);
@@ -34,6 +34,8 @@ uint8_t __wrap_osturdam_stretch(PARAMETERS)
     case 11: if (done) unit[OSTURDAM_UNIT] = 0; break;                                /* written past the unit */
     case 12: if (refused && room < asked) outcome = OSTURDAM_NOT_WHOLE; break;        /* served with too few records */
     case 13: if (refused && other) outcome = OSTURDAM_NOT_WHOLE; break;               /* a memory of another layout is served */
+    case 14: if (done) unit[OSTURDAM_AT_NUMBERS + 2 * OSTURDAM_SILENCE] = lag & 1; break; /* the lag counts as silence */
+    case 15: if (lag > OSTURDAM_LAG_MS && outcome == OSTURDAM_NOT_VALID) outcome = OSTURDAM_DONE; break; /* a lag too long is taken */
     }
     /* clang-format on */
     return outcome;

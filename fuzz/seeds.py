@@ -12,7 +12,7 @@ FOLDER = os.path.dirname(os.path.abspath(__file__))
 with open(os.path.join(FOLDER, '../include/osturdam.h'), encoding='utf-8') as header:
     NUMBERS = {name: int(number) for name, number in re.findall(r'^    OSTURDAM_(\w+) = (\d+)\b', header.read(), re.M)}
 BLOCK, REPLY, RECORDS, ROOM = (NUMBERS[name] for name in ('BLOCK', 'REPLY', 'RECORDS', 'ROOM'))
-FRAME, VALUES, HOLD, SILENT, LAYOUT = (NUMBERS[name] for name in ('FRAME', 'VALUES', 'HOLD_MS', 'SILENT_MS', 'LAYOUT'))
+FRAME, VALUES, HOLD, SILENT, LAG, LAYOUT = (NUMBERS[name] for name in ('FRAME', 'VALUES', 'HOLD_MS', 'SILENT_MS', 'LAG_MS', 'LAYOUT'))
 ANY_CONFIG, ANY_STATE, NULLS, MOST_ROOM = 1, 2, 4, 8
 OWN, ALL, ANOTHER = 0, 1, 2
 COMMANDS = [(0x00, 0x41), (0x00, 0x4D), (0x03, 0x00), (0x03, 0x80), (0x04, 0x00), (0x04, 0x20), (0x04, 0x40), (0x04, 0x60), (0x0A, 0x40), (0x10, 0x10),
@@ -28,6 +28,11 @@ def frame(function, command, data=b'', master=1, to=OWN, low=0):
     if chosen is None:
         return bytes([0, to << 5 | master, 0xFF, function, len(data), command]) + data
     return bytes([0, to << 5 | master, chosen, low, len(data)]) + data
+
+
+def lag(ms):
+    """Of the stretches that follow."""
+    return struct.pack('<BI', 5, ms)
 
 
 def stretch(chars):
@@ -84,6 +89,8 @@ def write(ordinal, bias, data, master=1):
 
 
 SCAN = frame(0x00, 0x4D)
+FIRST_TO_ALL = frame(0x20, 0x38, bytes([0, 1, 0, 0, 0, 0, 0]), to=ALL)
+LAST = frame(0x20, 0x38, b'\x03\x66\x23\x59\x59\x03\xe7')
 DUMP, NEXT = frame(0x04, 0x60), frame(0x04, 0x40)
 INPUTS = {
     'scan': head() + word(0x30, 0x8001) + pulses(0x40, 65535) + pulses(0x40, 1) + word(0xFF, 7) + SCAN + frame(0x00, 0x41),
@@ -97,11 +104,13 @@ INPUTS = {
     'write-held': head() + frame(0x20, 0x30, b'\0\0\6') + frame(0x20, 0x30, b'\0\0\6', master=2) + frame(0x20, 0x31, b'x', master=2) + elapsed(HOLD + 1),
     'tables': head() + write(11, 0, b'\x12\x02\x30\x40' + b'\x00\x03\x80\x81\x82') + b''.join(frame(0x0A, 0x40, low=n) for n in range(1, 5)),
     'table-end': head() + write(11, 128, bytes([0x11, 126]) + bytes(126)) + write(11, 0, bytes([0x33, 126]) + bytes(126)) + frame(0x0A, 0x40, low=2),
-    'clock': head() + frame(0x20, 0x38, b'\x03\x66\x23\x59\x59\x03\xe7') + elapsed(1) + frame(0x28, 0x31) + frame(0x20, 0x38, b'\x03\x67\0\0\0\0\0'),
+    'clock': head() + LAST + elapsed(1) + frame(0x28, 0x31) + frame(0x20, 0x38, b'\x03\x67\0\0\0\0\0'),
+    'lag': head() + lag(1) + LAST + lag(LAG) + LAST + lag(LAG + 1) + LAST + SCAN + frame(0x28, 0x31) + lag(2**32 - 1) + LAST + DUMP,
+    'lag-all': head() + lag(LAG) + FIRST_TO_ALL + lag(LAG + 1) + FIRST_TO_ALL + SCAN,
     'year': head() + elapsed(2**32 - 1) * 9 + frame(0x28, 0x31),
     'silence': head() + elapsed(SILENT - 1) + elapsed(1) + SCAN + SCAN + stretch(b'') + elapsed(SILENT) + stretch(b'noise') + SCAN,
     'restart': head() + frame(0x20, 0x30, b'\0\0\6') + record(0) + NEXT + frame(0x20, 0x00) + NEXT,
-    'broadcast': head() + frame(0x20, 0x11, b'\x40', to=ALL) + frame(0x20, 0x38, bytes([0, 1, 0, 0, 0, 0, 0]), to=ALL) + frame(0x20, 0x00, to=ALL) + SCAN,
+    'broadcast': head() + frame(0x20, 0x11, b'\x40', to=ALL) + FIRST_TO_ALL + frame(0x20, 0x00, to=ALL) + SCAN,
     'another': head() + frame(0x00, 0x41, to=ANOTHER) + SCAN,
     'history': head() + record(0) * 3 + DUMP + frame(0x04, 0x20) + record(0) + frame(0x04, 0x20) + DUMP + DUMP,
     'two-masters': head() + record(0) + NEXT + frame(0x04, 0x40, master=2) + NEXT + NEXT,

@@ -19,7 +19,7 @@
  *     struct osturdam_lent lent = osturdam_lend(&all, &config);
  *     osturdam_begin(&lent, &config);
  *
- *     struct osturdam_heard heard = { .chars = line, .count = many, .buffer = reply, .room = sizeof reply };
+ *     struct osturdam_heard heard = { .chars = line, .count = many, .buffer = reply, .room = sizeof reply, .lag = since_sync };
  *     struct osturdam_turned turned;
  *     osturdam_hear(&lent, &heard, &turned);
  *
@@ -36,7 +36,7 @@ extern "C" {
 /* Of this interface: one more where a call changes, or the meaning of what it takes. Where a unit's memory changes, OSTURDAM_LAYOUT is
  * another, and a unit that was stored in another layout is OSTURDAM_NOT_CONFIGURED. A program holds this header to its library once, before
  * its first unit: osturdam_layout() == OSTURDAM_LAYOUT. */
-#define OSTURDAM_VERSION 3
+#define OSTURDAM_VERSION 4
 
 /* ---- limits, lengths, and where a unit's parts lie in its memory */
 
@@ -57,6 +57,7 @@ enum {
     OSTURDAM_RECORDS = 38912,       /* the most characters of records that a configuration asks for */
     OSTURDAM_HOLD_MS = 5000,        /* for how long a select or a write is held */
     OSTURDAM_SILENT_MS = 60000,     /* after how long with no stretch a port is silent */
+    OSTURDAM_LAG_MS = 10000,        /* the longest lag with which a Set Time is taken */
     OSTURDAM_CONFIG = 836,          /* characters of a configuration, which lies from AT_NUMBER on in a unit's memory */
     OSTURDAM_UNIT = 2474,           /* characters of a unit's memory */
     OSTURDAM_LAYOUT = 2,            /* the number of this layout, which stands first in the memory */
@@ -235,12 +236,21 @@ struct osturdam_together {
     uint8_t records[OSTURDAM_RECORDS];      /* its first characters are the files */
 };
 
-/* What a stretch comes with: to be filled by the fields' names, the others 0, since fields may be added. */
+/* What a stretch comes with: to be filled by the fields' names, the others 0, since fields may be added.
+ *
+ * A Set Time carries the time of its sync point: the edge that ends the start bit of the fifth character, the low one of the count. The clock
+ * becomes that time and the lag: how long ago the sync point was, at the moment up to which the milliseconds that passed were handed over
+ * (osturdam_wait). So a driver marks the time of every fifth character, since it cannot know yet what the stretch will be; at the idle mark it
+ * hands over what passed up to it, then the stretch with the difference, to the nearest millisecond, and none is lost or counted twice. The
+ * time that a master suspends its sending before the sync point is no part of it. A Set Time is taken with a lag of 0 to OSTURDAM_LAG_MS; a
+ * longer one is OSTURDAM_NOT_VALID, and OSTURDAM_BROADCAST_REFUSED to all units. No other stretch looks at it. Where there was no fifth
+ * character, or nothing was measured, it is 0; a clock that is set so is late by what was not measured. */
 struct osturdam_heard {
     const uint8_t *chars;                   /* the characters between two idle marks */
     uint64_t count;
     uint8_t *buffer;                        /* for the reply */
     uint64_t room;                          /* of the buffer: OSTURDAM_REPLY or more */
+    uint32_t lag;                           /* milliseconds from the sync point to the idle mark that ended the stretch */
 };
 
 /* How a stretch ended. */
@@ -269,9 +279,10 @@ uint64_t osturdam_room(const uint8_t config[OSTURDAM_CONFIG]);
 
 void osturdam_fresh(uint8_t unit[OSTURDAM_UNIT], uint8_t *block, uint64_t length, const uint8_t config[OSTURDAM_CONFIG]);
 
-/* `turned` receives: low and high character of how many are sent, action, output. */
+/* `lag` is in milliseconds, from the sync point to the idle mark, as in struct osturdam_heard. `turned` receives: low and high character of
+ * how many are sent, action, output. */
 uint8_t osturdam_stretch(uint8_t unit[OSTURDAM_UNIT], uint8_t *block, uint64_t length, uint8_t *records, uint64_t room, uint8_t *buffer,
-                         uint64_t buffer_room, const uint8_t *chars, uint64_t count, uint8_t turned[4]);
+                         uint64_t buffer_room, const uint8_t *chars, uint64_t count, uint32_t lag, uint8_t turned[4]);
 
 uint8_t osturdam_elapsed(uint8_t unit[OSTURDAM_UNIT], const uint8_t *block, uint64_t length, const uint8_t *records, uint64_t room,
                          uint32_t ms);
@@ -510,12 +521,12 @@ static inline void osturdam_begin(const struct osturdam_lent *l, const struct os
     osturdam_fresh((uint8_t *)l->unit, l->block, l->length, (const uint8_t *)c);
 }
 
-/* A stretch was heard. Of the buffer the reply alone is written. */
+/* A stretch was heard, which had its sync point `lag` milliseconds ago (struct osturdam_heard). Of the buffer the reply alone is written. */
 static inline enum osturdam_outcome osturdam_hear(const struct osturdam_lent *l, const struct osturdam_heard *h, struct osturdam_turned *t)
 {
     uint8_t told[4] = {0, 0, 0, 0};
-    uint8_t outcome =
-        osturdam_stretch((uint8_t *)l->unit, l->block, l->length, l->records, l->room, h->buffer, h->room, h->chars, h->count, told);
+    uint8_t outcome = osturdam_stretch((uint8_t *)l->unit, l->block, l->length, l->records, l->room, h->buffer, h->room, h->chars, h->count,
+                                       h->lag, told);
     t->outcome = (enum osturdam_outcome)outcome;
     t->sent = osturdam_word_at(told);
     t->action = (enum osturdam_action)told[2];

@@ -42,7 +42,7 @@ struct plain_turned {
 
 void plain_fresh(struct plain_unit *u);
 struct plain_turned plain_stretch(const struct plain_config *c, struct plain_unit *u, const uint8_t *stretch, size_t heard, uint8_t *buffer,
-                                  size_t room);
+                                  size_t room, uint32_t lag);
 uint8_t plain_elapsed(const struct plain_config *c, struct plain_unit *u, uint32_t ms);
 uint8_t plain_set_word(const struct plain_config *c, struct plain_unit *u, uint8_t input, uint16_t word);
 uint8_t plain_pulses(const struct plain_config *c, struct plain_unit *u, uint8_t input, uint16_t count);

@@ -13,13 +13,14 @@ typedef struct plain_unit Unit;
 typedef struct plain_kept Kept;
 typedef struct plain_turned Turned;
 
-// The request's data, the reply's data behind the head of the buffer, and what the outputs do.
+// The request's data, the milliseconds since its sync point, the reply's data behind the head of the buffer, and what the outputs do.
 typedef struct {
     const Config *c;
     Unit *u;
     uint8_t master, function, command;
     const uint8_t *data;
     size_t count;
+    uint32_t lag;
     uint8_t *reply;
     size_t filled;
     uint8_t action, output;
@@ -28,6 +29,8 @@ typedef struct {
 // A frame to this unit, and one to all units; both answer an outcome.
 int plain_serve(Request *r);
 int plain_broadcast(Request *r);
+
+void plain_move_clock(Kept *k, uint32_t ms);
 
 // The characters of a record before its values.
 void plain_stamp(const Kept *k, uint8_t event, uint8_t *record);

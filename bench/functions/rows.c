@@ -80,19 +80,25 @@ static void refused(void)
     ask(0x10, 0x10, "\x63", 1, 1, OSTURDAM_NOT_VALID);
 }
 
+// Day 366, 23:59:59.999: the lag carries through every field.
+static void set_time(void)
+{
+    ask(0x20, 0x38, "\x03\x66\x23\x59\x59\x03\xE7", 7, 1, OSTURDAM_DONE);
+}
+
 int main(int argc, char **argv)
 {
     static const struct {
         const char *name;
         void (*run)(void);
     } rows[] = {{"points", points}, {"table", table},    {"last", last_table}, {"first", first_table}, {"values", values},
-                {"dump", dump},     {"store", one_more}, {"release", release}, {"refused", refused}};
+                {"dump", dump},     {"store", one_more}, {"release", release}, {"refused", refused},   {"set", set_time}};
     equip(POINTS);
     for (size_t i = 0; argc == 2 && i < sizeof rows / sizeof rows[0]; i++)
         if (strcmp(argv[1], rows[i].name) == 0) {
             rows[i].run();
             return 0;
         }
-    fprintf(stderr, "usage: rows points | table | last | first | values | dump | store | release | refused\n");
+    fprintf(stderr, "usage: rows points | table | last | first | values | dump | store | release | refused | set\n");
     return 2;
 }

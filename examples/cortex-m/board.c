@@ -47,16 +47,6 @@ void board_output(uint8_t output, int closed)
         LAMPS = closed ? LAMPS | 1u << output : LAMPS & ~(1u << output);
 }
 
-void board_hold(void)
-{
-    __asm__ volatile("cpsid i" ::: "memory");
-}
-
-void board_release(void)
-{
-    __asm__ volatile("cpsie i" ::: "memory");
-}
-
 void board_sleep(void)
 {
     __asm__ volatile("wfi" ::: "memory");

@@ -11,10 +11,6 @@ void board_tell(const char *text);
 void board_output(uint8_t output, int closed); /* what hangs on one of the two pins */
 void board_sleep(void);                        /* until the next interrupt, which comes within a millisecond */
 
-/* With no interrupt between the two, what interrupts write is read as it was at one moment. */
-void board_hold(void);
-void board_release(void);
-
 /* Interrupts, and what they tell the line's driver (line.c): a character came, a millisecond passed. */
 void uart_interrupt(void);
 void line_heard(uint8_t character);

@@ -6,14 +6,22 @@
  * no mark stands there until it is certain that nothing follows. */
 enum { SUSPENSION_MS = 1000, SET = 0x20, TIME = 0x38, HEADER = 4 };
 
+/* The sync point ends the start bit of the character behind the header; the interrupt for that character comes nine bits later, which at
+ * 9,600 baud is 0.94 ms. Both ends of a lag are counted in whole milliseconds, so it is right to one; a board that is to do better reads its
+ * timer's own count there. */
+enum { SYNC_MS = 1 };
+
 static struct stretch stretches[2]; /* one is filled while the other is served */
 static volatile uint8_t filled;
-static volatile uint32_t quiet, passed;
+static volatile uint32_t quiet, now;
+static uint32_t told; /* up to when milliseconds were handed over */
 
 void line_heard(uint8_t character)
 {
     struct stretch *s = &stretches[filled];
     quiet = 0;
+    if (s->many == HEADER)
+        s->fifth = now;
     if (s->many < LINE_KEPT)
         s->chars[s->many++] = character;
 }
@@ -28,7 +36,7 @@ static int suspended(const struct stretch *s)
 void line_tick(void)
 {
     struct stretch *s = &stretches[filled];
-    passed++;
+    now++;
     quiet++;
     if (s->many > 0 && quiet >= (suspended(s) ? SUSPENSION_MS : GAP_MS) && !stretches[!filled].whole) {
         s->whole = 1;
@@ -50,9 +58,12 @@ void line_done(struct stretch *s)
 
 uint32_t line_passed(void)
 {
-    board_hold();
-    uint32_t ms = passed;
-    passed = 0;
-    board_release();
+    uint32_t ms = now - told;
+    told += ms;
     return ms;
+}
+
+uint32_t line_lag(const struct stretch *s)
+{
+    return s->many > HEADER ? told - s->fifth + SYNC_MS : 0;
 }

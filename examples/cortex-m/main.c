@@ -46,7 +46,7 @@ static int worth_keeping(enum osturdam_outcome outcome)
 static void serve(struct stretch *s)
 {
     static uint8_t reply[OSTURDAM_REPLY];
-    struct osturdam_heard heard = {.chars = s->chars, .count = s->many, .buffer = reply, .room = sizeof reply};
+    struct osturdam_heard heard = {.chars = s->chars, .count = s->many, .buffer = reply, .room = sizeof reply, .lag = line_lag(s)};
     struct osturdam_turned turned;
     enum osturdam_outcome outcome = osturdam_hear(&lent, &heard, &turned);
     line_done(s);
@@ -90,8 +90,8 @@ int main(void)
     wake();
     for (;;) {
         board_sleep();
+        struct stretch *s = line_stretch(); /* before the time that passed, so that its idle mark is not later than that */
         tick(line_passed());
-        struct stretch *s = line_stretch();
         if (s)
             serve(s);
     }

@@ -168,6 +168,7 @@ static void hear(void)
 {
     heard.room = word();
     heard.buffer = heard.room > 0 ? buffer + shift : NULL;
+    heard.lag = value();
     heard.count = value();
     heard.chars = heard.count > 0 ? heard_chars + shift : NULL;
     if (heard.count <= LONGEST)
@@ -271,7 +272,7 @@ static int call(enum line line)
 
 static int opened(void)
 {
-    static const char mark[] = "osturdam recording 2\n";
+    static const char mark[] = "osturdam recording 3\n";
     for (const char *p = mark; *p != 0; p++)
         if (character() != (uint8_t)*p)
             return failed("no recording of this kind; it differs at ", (uint32_t)(p - mark));

@@ -66,10 +66,11 @@ pub unsafe extern "C" fn rust_stretch(
     heard: usize,
     buffer: *mut u8,
     room: usize,
+    lag: u32,
 ) -> Turned {
     let stretch = slice::from_raw_parts(stretch, heard);
     let buffer = slice::from_raw_parts_mut(buffer, room);
-    let answer = independent::stretch(&u.config, &mut u.state, &mut u.params, buffer, stretch);
+    let answer = independent::stretch(&u.config, &mut u.state, &mut u.params, buffer, stretch, lag);
     let (action, output) = answer
         .action
         .map_or((0, 0), |done| (1 + u8::from(done.close), done.output));

@@ -38,7 +38,7 @@ fn hear<'a>(
     requires { ⌜ n ≤ length (now heard) ⌝ }
 {
     let mut block = [0u8; 0];
-    unit::stretch(unit, &mut block, records, buffer, &heard[..n])
+    unit::stretch(unit, &mut block, records, buffer, &heard[..n], 0)
 }
 
 fn wait<'a>(unit: &mut [u8; UNIT], records: &'a [u8], ms: u32) -> Outcome {

@@ -37,8 +37,8 @@ answerShown n = record { answer = n; action = 0; output = 0; reply = [] }
 -- calls in turn, each by its contract, on what the one before left
 pub data Runs : Owned → List Event → List Numbered → Owned → Type 0 where
   none : {x : Owned} → Runs x [] [] x
-  heard : {x y z : Owned} {s entry exit ts : List ℕ} {n : ℕ} {es : List Event} {xs : List Numbered}
-      → TurnPromise s x y entry exit n ts → Runs y es xs z → Runs x (coming entry s ∷ es) (numbersShown n ts exit ∷ xs) z
+  heard : {x y z : Owned} {lag : ℕ} {s entry exit ts : List ℕ} {n : ℕ} {es : List Event} {xs : List Numbered}
+      → TurnPromise lag s x y entry exit n ts → Runs y es xs z → Runs x (coming entry lag s ∷ es) (numbersShown n ts exit ∷ xs) z
   heeded : {x y z : Owned} {e : Event} {n : ℕ} {es : List Event} {xs : List Numbered}
       → NoStretch e → AnswerPromise e x y n → Runs y es xs z → Runs x (e ∷ es) (answerShown n ∷ xs) z
 

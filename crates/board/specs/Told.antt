@@ -28,9 +28,9 @@ abbrev pub turnedBy : Made → List ℕ
 turnedBy m = m .sent % 256 ∷ m .sent / 256 % 256 ∷ actionNumber (m .action) ∷ outputNumber (m .action) ∷ []
 
 -- the turn of the unit's entry, in numbers
-pub record TurnPromise (s : List ℕ) (x y : Owned) (entry exit : List ℕ) (n : ℕ) (ts : List ℕ) : Type 0 where
+pub record TurnPromise (lag : ℕ) (s : List ℕ) (x y : Owned) (entry exit : List ℕ) (n : ℕ) (ts : List ℕ) : Type 0 where
   pub turn : Made
-  pub serves : StretchPromise s x y entry exit turn
+  pub serves : StretchPromise lag s x y entry exit turn
   pub number : n ≡ numberOf (turn .outcome)
   pub told : ts ≡ turnedBy turn
 

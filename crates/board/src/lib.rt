@@ -81,14 +81,15 @@ pub extern "C" fn osturdam_stretch<'a>(
     records: &mut [u8],
     buffer: &mut [u8],
     s: &'a [u8],
+    lag: u32,
     turned: &mut [u8; 4],
 ) -> u8
-    ensures { λ r. ⌜ TurnPromise (now (s .entry))
+    ensures { λ r. ⌜ TurnPromise lag (now (s .entry))
         (ownedOf (now (unit .entry)) (now (block .entry)) (now (records .entry)))
         (ownedOf (now (unit .exit)) (now (block .exit)) (now (records .exit)))
         (now (buffer .entry)) (now (buffer .exit)) r (now (turned .exit)) ⌝ }
 {
-    let turn = unit::stretch(unit, block, records, buffer, s);
+    let turn = unit::stretch(unit, block, records, buffer, s, lag);
     let outcome = turn.outcome;
     let action = turn.action;
     let sent = turn.sent;

@@ -3,20 +3,21 @@ use mathlib.Core.Path.{_≡_, refl, sym, ap, _∙_}
 use Prim.Native.Nat.{ℕ, _+_, _*_, _/_, _%_, _<_, _≤_}
 use native.Mathlib.Omega.{arith}
 use mathlib.Core.List.{List, [], _∷_}
-use mathlib.Core.Bool.{Bool, true, false, cond, _&&_, false≢true}
+use mathlib.Core.Bool.{Bool, true, false, _&&_, false≢true}
 use lib.ListN.{length, getD}
 use lib.Dec.{leb}
-use borrow.Author.Tests.{leb-true, le-leb, eq-eqb, ne-eqb}
+use borrow.Author.Tests.{le-leb, lt-leb, eq-eqb, ne-eqb}
 use Rattle.chars.specs.Put.{put, part}
 use Rattle.chars.proofs.PutLaws.{put-none, part-whole}
-use Rattle.model.specs.Limits.{replyHead}
+use Rattle.model.specs.Limits.{replyHead, mostLag}
 use Rattle.model.specs.Frame.{Request}
 use Rattle.model.specs.Config.{within}
 use Rattle.model.specs.Scan.{Scan, Fills, tells, refuses, counts, withNoData}
-use Rattle.model.specs.Clock.{bcd, fromBcd, digits, clockFits, timeIn, digitsFit, setTimeOf, timeChars, readTimeOf}
+use Rattle.model.specs.Clock.{bcd, fromBcd, digits, clockFits, timeIn, digitsFit, timeFits, clockAfter, setTimeOf, timeChars, readTimeOf}
 use Rattle.model.specs.declared.Outcome.{Outcome}
 use Rattle.model.specs.declared.Outcome.the-variants.{Done, WrongCount, NotValid, NotConfigured}
 use Rattle.model.specs.declared.Clock.{Clock}
+use Rattle.model.proofs.Times.{ranges}
 use Rattle.clock.specs.Times.{timeReadOf}
 
 pub both : (a b : Bool) → a && b ≡ true → (a ≡ true) × (b ≡ true)
@@ -24,31 +25,6 @@ both true b e = (refl, e)
 both false b e = absurd (false≢true e)
 
 -- ---- a clock in range
-
-pub record Bounds (k : Clock) : Type 0 where
-  pub first : 1 ≤ k .day
-  pub last : k .day ≤ 366
-  pub hours : k .hour ≤ 23
-  pub minutes : k .minute ≤ 59
-  pub seconds : k .second ≤ 59
-  pub rest : k .ms ≤ 999
-
-pub bounds : (k : Clock) → clockFits k ≡ true → Bounds k
-unfolding clockFits within
-bounds k e =
-    let a = both (within 1 366 (k .day)) (leb (k .hour) 23 && (leb (k .minute) 59 && (leb (k .second) 59 && leb (k .ms) 999))) e in
-    let d = both (leb 1 (k .day)) (leb (k .day) 366) (a .0) in
-    let h = both (leb (k .hour) 23) (leb (k .minute) 59 && (leb (k .second) 59 && leb (k .ms) 999)) (a .1) in
-    let m = both (leb (k .minute) 59) (leb (k .second) 59 && leb (k .ms) 999) (h .1) in
-    let s = both (leb (k .second) 59) (leb (k .ms) 999) (m .1) in
-    record {
-      first = leb-true 1 (k .day) (d .0);
-      last = leb-true (k .day) 366 (d .1);
-      hours = leb-true (k .hour) 23 (h .0);
-      minutes = leb-true (k .minute) 59 (m .0);
-      seconds = leb-true (k .second) 59 (s .0);
-      rest = leb-true (k .ms) 999 (s .1);
-    }
 
 -- all but the last test passed
 pub fits-last : (k : Clock) → 1 ≤ k .day → k .day ≤ 366 → k .hour ≤ 23 → k .minute ≤ 59 → k .second ≤ 59 → leb (k .ms) 999 ≡ clockFits k
@@ -91,27 +67,32 @@ time-told s p q r t u v w = rw (p, q, r, t, u, v, w)
 
 -- ---- Set Time
 
-module _ (k : Clock) (q : Request) where
-  pub set-count : (length (q .body) ≡ 7 → ⊥) → setTimeOf k q ≡ record { says = refuses WrongCount; clock = k }
+module _ (lag : ℕ) (k : Clock) (q : Request) where
+  pub set-count : (length (q .body) ≡ 7 → ⊥) → setTimeOf lag k q ≡ record { says = refuses WrongCount; clock = k }
   unfolding setTimeOf counts
   set-count n = simp (ne-eqb (length (q .body)) 7 n)
 
   module _ (seven : length (q .body) ≡ 7) (d : Bool) (told : d ≡ digitsFit (q .body)) where
-    pub set-digits : d ≡ false → setTimeOf k q ≡ record { says = refuses NotValid; clock = k }
-    unfolding setTimeOf counts
+    pub set-digits : d ≡ false → setTimeOf lag k q ≡ record { says = refuses NotValid; clock = k }
+    unfolding setTimeOf timeFits counts
     set-digits n = simp (eq-eqb (length (q .body)) 7 seven, sym told ∙ n)
 
     module _ (right : d ≡ true) (t : Clock) (time : t ≡ timeIn (q .body)) (f : Bool) (fit : f ≡ clockFits t) where
       in-range : clockFits (timeIn (q .body)) ≡ f
       in-range = rw (← time) (sym fit)
 
-      pub set-range : f ≡ false → setTimeOf k q ≡ record { says = refuses NotValid; clock = k }
-      unfolding setTimeOf counts
+      pub set-range : f ≡ false → setTimeOf lag k q ≡ record { says = refuses NotValid; clock = k }
+      unfolding setTimeOf timeFits counts
       set-range n = simp (eq-eqb (length (q .body)) 7 seven, sym told ∙ right, in-range ∙ n)
 
-      pub set-done : f ≡ true → setTimeOf k q ≡ record { says = tells []; clock = t }
-      unfolding setTimeOf counts
-      set-done y = simp (eq-eqb (length (q .body)) 7 seven, sym told ∙ right, in-range ∙ y, time)
+      module _ (y : f ≡ true) where
+        pub set-late : mostLag < lag → setTimeOf lag k q ≡ record { says = refuses NotValid; clock = k }
+        unfolding setTimeOf timeFits counts
+        set-late l = simp (eq-eqb (length (q .body)) 7 seven, sym told ∙ right, in-range ∙ y, lt-leb lag mostLag l)
+
+        pub set-done : lag ≤ mostLag → {x : Clock} → x ≡ clockAfter t lag → setTimeOf lag k q ≡ record { says = tells []; clock = x }
+        unfolding setTimeOf timeFits counts
+        set-done l e = simp (eq-eqb (length (q .body)) 7 seven, sym told ∙ right, in-range ∙ y, le-leb lag mostLag l, ← time, e)
 
 -- ---- Read Time
 
@@ -121,7 +102,7 @@ module _ (k : Clock) (fit : clockFits k ≡ true) where
       → k .day / 100 ∷ a ∷ b ∷ c ∷ d ∷ k .ms / 256 ∷ k .ms % 256 ∷ [] ≡ timeChars k
   unfolding timeChars
   time-made p q r t =
-      let n = bounds k fit in
+      let n = ranges k fit in
       let u : k .day % 100 % 100 ≡ k .day % 100 = omega arith in
       let h : k .hour % 100 ≡ k .hour = omega arith in
       let m : k .minute % 100 ≡ k .minute = omega arith in

@@ -1,33 +1,19 @@
--- Laws of the clock: two decimal digits and back, the time as one number and back, times that pass, and what was set is read.
-use mathlib.Core.Path.{_≡_, refl, sym, ap, _∙_}
-use Prim.Native.Nat.{ℕ, zero, suc, _+_, _*_, _-_, _/_, _%_, _<_, _≤_}
+-- Laws of the clock: two decimal digits and back, and what was set is read.
+use mathlib.Core.Path.{_≡_, refl, sym}
+use Prim.Native.Nat.{ℕ, _+_, _*_, _/_, _%_, _<_, _≤_}
 use native.Mathlib.Omega.{arith}
 use mathlib.Core.List.{List, [], _∷_}
-use mathlib.Core.Bool.{Bool, true, false, cond, _&&_}
+use mathlib.Core.Bool.{true, _&&_}
 use lib.ListN.{length, getD}
 use lib.Dec.{leb}
-use borrow.Author.Tests.{leb-true, le-leb, eq-eqb}
+use borrow.Author.Tests.{leb-true, eq-eqb}
 use Rattle.chars.specs.Word.{Characters}
 use Rattle.model.specs.Frame.{Request}
-use Rattle.model.specs.Scan.{tells, refuses, counts, withNoData}
-use Rattle.model.specs.Clock.{
-  Timed,
-  bcd,
-  fromBcd,
-  digits,
-  clockFits,
-  timeIn,
-  digitsFit,
-  setTimeOf,
-  timeChars,
-  readTimeOf,
-  timeOf,
-  clockAt,
-  clockAfter,
-}
-use Rattle.model.specs.declared.Outcome.the-variants.{Done, WrongCount, NotValid}
+use Rattle.model.specs.Scan.{tells, counts, withNoData}
+use Rattle.model.specs.Clock.{bcd, fromBcd, digits, clockFits, timeIn, digitsFit, timeFits, setTimeOf, timeChars, readTimeOf}
 use Rattle.model.specs.declared.Clock.{Clock}
-use Rattle.clock.proofs.CodeLaws.{both, bounds, fits-last}
+use Rattle.model.proofs.Times.{after-none}
+use Rattle.clock.proofs.CodeLaws.{both}
 
 -- ---- two decimal digits
 
@@ -43,74 +29,7 @@ bcd-there b e =
     let l : b % 16 ≤ 9 = leb-true (b % 16) 9 (t .1) in
     omega arith
 
--- ---- the time as one number
-
--- a clock by its numbers
-clock-is : (t : ℕ) (k : Clock) → t / 86400000 + 1 ≡ k .day → t / 3600000 % 24 ≡ k .hour → t / 60000 % 60 ≡ k .minute
-    → t / 1000 % 60 ≡ k .second → t % 1000 ≡ k .ms → clockAt t ≡ k
-unfolding clockAt
-clock-is t k d h m s r = rw (d, h, m, s, r)
-
-pub clock-time : (k : Clock) → clockFits k ≡ true → clockAt (timeOf k) ≡ k
-unfolding timeOf
-clock-time k fit = let n = bounds k fit in clock-is (timeOf k) k (omega arith) (omega arith) (omega arith) (omega arith) (omega arith)
-
--- a time is its days, hours, minutes, seconds and milliseconds
-parts : (t : ℕ) → (((t / 86400000 + 1 - 1) * 24 + t / 3600000 % 24) * 60 + t / 60000 % 60) * 60000 + t / 1000 % 60 * 1000 + t % 1000 ≡ t
-parts t =
-    let d : t / 3600000 / 24 ≡ t / 86400000 = omega arith in
-    let h : t / 60000 / 60 ≡ t / 3600000 = omega arith in
-    let m : t / 1000 / 60 ≡ t / 60000 = omega arith in
-    omega arith
-
-pub time-clock : (t : ℕ) → t < 366 * 86400000 → timeOf (clockAt t) ≡ t
-unfolding timeOf clockAt
-time-clock t h = parts t
-
-pub time-below : (k : Clock) → clockFits k ≡ true → timeOf k < 366 * 86400000
-unfolding timeOf
-time-below k fit = let n = bounds k fit in omega arith
-
--- ---- times that pass
-
--- two times in turn are their sum
-pub after-after : (k : Clock) (a b : ℕ) → clockAfter (clockAfter k a) b ≡ clockAfter k (a + b)
-unfolding clockAfter
-after-after k a b =
-    let h : (timeOf k + a) % (366 * 86400000) < 366 * 86400000 = omega arith in
-    let e : ((timeOf k + a) % (366 * 86400000) + b) % (366 * 86400000) ≡ (timeOf k + (a + b)) % (366 * 86400000) = omega arith in
-    rw (time-clock ((timeOf k + a) % (366 * 86400000)) h) (ap clockAt e)
-
-at-fits : (t : ℕ) → t < 366 * 86400000 → clockFits (clockAt t) ≡ true
-unfolding clockAt
-at-fits t h = sym (fits-last (clockAt t) (omega arith) (omega arith) (omega arith) (omega arith) (omega arith)) ∙ le-leb (t % 1000) 999 (omega arith)
-
--- whatever the clock was, after any time it is in range
-pub after-fits : (k : Clock) (ms : ℕ) → clockFits (clockAfter k ms) ≡ true
-unfolding clockAfter
-after-fits k ms = at-fits ((timeOf k + ms) % (366 * 86400000)) (omega arith)
-
 -- ---- what was set is read
-
--- a clock in range stays so
-fits-either : (b : Bool) (x y : Timed) → (b ≡ true → clockFits (x .clock) ≡ true) → clockFits (y .clock) ≡ true → clockFits (cond b x y .clock) ≡ true
-fits-either true x y f g = f refl
-fits-either false x y f g = g
-
-pub set-fits : (k : Clock) (q : Request) → clockFits k ≡ true → clockFits (setTimeOf k q .clock) ≡ true
-unfolding setTimeOf
-set-fits k q fit =
-    fits-either
-    (counts 7 q)
-    (cond (digitsFit (q .body) && clockFits (timeIn (q .body))) (record { says = tells []; clock = timeIn (q .body) }) (record { says = refuses NotValid; clock = k }))
-    (record { says = refuses WrongCount; clock = k })
-    (λ _. fits-either
-    (digitsFit (q .body) && clockFits (timeIn (q .body)))
-    (record { says = tells []; clock = timeIn (q .body) })
-    (record { says = refuses NotValid; clock = k })
-    (λ e. both (digitsFit (q .body)) (clockFits (timeIn (q .body))) e .1)
-    fit)
-    fit
 
 seven : (s : List ℕ) → length s ≡ 7
     → s ≡ getD s 0 0 ∷ getD s 1 0 ∷ getD s 2 0 ∷ getD s 3 0 ∷ getD s 4 0 ∷ getD s 5 0 ∷ getD s 6 0 ∷ []
@@ -150,8 +69,8 @@ from-small b e =
     omega arith
 
 -- the characters of the time that seven characters tell are those seven
-pub set-read : (s : List ℕ) → digitsFit s && clockFits (timeIn s) ≡ true → length s ≡ 7 → Characters s → timeChars (timeIn s) ≡ s
-unfolding timeChars timeIn
+pub set-read : (s : List ℕ) → timeFits s ≡ true → length s ≡ 7 → Characters s → timeChars (timeIn s) ≡ s
+unfolding timeFits timeChars timeIn
 set-read s ok n chars =
     let d = decimals s (both (digitsFit s) (clockFits (timeIn s)) ok .0) in
     let small : fromBcd (getD s 1 0) < 100 = from-small (getD s 1 0) (d .day) in
@@ -171,8 +90,10 @@ set-read s ok n chars =
       bcd-there (getD s 4 0) (d .second),
     ) (sym (seven s n))
 
--- a Read Time after a Set Time that was taken sends the characters that were sent
-pub set-then-read : (k : Clock) (q p : Request) → digitsFit (q .body) && clockFits (timeIn (q .body)) ≡ true → length (q .body) ≡ 7
-    → Characters (q .body) → length (p .body) ≡ 0 → readTimeOf (setTimeOf k q .clock) p ≡ tells (q .body)
+-- a Read Time after a Set Time that was taken without a lag sends the characters that were sent
+pub set-then-read : (k : Clock) (q p : Request) → timeFits (q .body) ≡ true → length (q .body) ≡ 7
+    → Characters (q .body) → length (p .body) ≡ 0 → readTimeOf (setTimeOf 0 k q .clock) p ≡ tells (q .body)
 unfolding setTimeOf readTimeOf withNoData counts
-set-then-read k q p ok n chars none = simp (eq-eqb (length (q .body)) 7 n, eq-eqb (length (p .body)) 0 none, ok, set-read (q .body) ok n chars)
+set-then-read k q p ok n chars none =
+    let e = after-none (timeIn (q .body)) (unfold timeFits in both (digitsFit (q .body)) _ ok .1) in
+    simp (eq-eqb (length (q .body)) 7 n, eq-eqb (length (p .body)) 0 none, ok, e, set-read (q .body) ok n chars)

@@ -12,7 +12,7 @@ ghost use Rattle.chars.specs.Put.{put};
 ghost use Rattle.model.specs.Limits.{replyHead};
 ghost use Rattle.model.specs.Frame.{asked};
 ghost use Rattle.model.specs.Scan.{Fills};
-ghost use Rattle.model.specs.Clock.{bcd, fromBcd, digits, clockFits, timeIn, digitsFit, setTimeOf, timeChars, timeOf, clockAt, clockAfter};
+ghost use Rattle.model.specs.Clock.{bcd, fromBcd, digits, clockFits, timeIn, digitsFit, timeOf, clockAt, clockAfter, setTimeOf, timeChars};
 ghost use Rattle.clock.specs.Times.{setOf, timeReadOf};
 
 // In milliseconds. Every year has 366 days.
@@ -115,9 +115,9 @@ fn time_in(body: &[u8]) -> Clock
     }
 }
 
-// The clock takes the time sent, or stays.
-pub fn set_time(clock: Clock, frame: Frame, body: &[u8]) -> Set
-    ensures { λ r. ⌜ r ≡ setOf (setTimeOf clock (asked frame (now (body .entry)))) ⌝ }
+// The clock takes the time sent, moved by the lag since, or stays.
+pub fn set_time(clock: Clock, frame: Frame, body: &[u8], lag: u32) -> Set
+    ensures { λ r. ⌜ r ≡ setOf (setTimeOf lag clock (asked frame (now (body .entry)))) ⌝ }
 {
     if body.len() != 7 {
         return Set {
@@ -128,10 +128,12 @@ pub fn set_time(clock: Clock, frame: Frame, body: &[u8]) -> Set
     if digits_fit(body) {
         let time = time_in(body);
         if clock_fits(time) {
-            return Set {
-                outcome: Outcome::Done,
-                clock: time,
-            };
+            if lag <= Clock::LAG {
+                return Set {
+                    outcome: Outcome::Done,
+                    clock: clock_after(time, lag),
+                };
+            }
         }
     }
     Set {

@@ -27,11 +27,11 @@ record Spares (k : Core) (p : Step) : Type 0 where
   hold : p .core .hold ≡ k .hold
   write : p .core .write ≡ k .write
 
-module _ (c : Config) (i : Inner) (named : c .unit ≤ 0x7FE) where
+module _ (c : Config) (i : Inner) (named : c .unit ≤ 0x7FE) (lag : ℕ) where
   Leaves : Made → Type 0
   Leaves m = (m .inner .core .hold ≡ i .core .hold) × (m .inner .core .write ≡ i .core .write) × (m .inner .history ≡ i .history)
 
-  broadcast-spares : (q : Request) → Spares (i .core) (broadcastOf c (i .core) (i .areas) q)
+  broadcast-spares : (q : Request) → Spares (i .core) (broadcastOf c (i .core) (i .areas) lag q)
   unfolding broadcastOf changed timed scanned
   broadcast-spares q =
       by-cond (Spares (i .core)) (eqb (q .function) 0x20 && eqb (q .command) 0x11) (λ e. record { hold = refl; write = refl })
@@ -46,16 +46,16 @@ module _ (c : Config) (i : Inner) (named : c .unit ≤ 0x7FE) where
   unfolding Leaves quiet
   quiet-leaves o = (refl, refl, refl)
 
-  framed-leaves : (q : Request) → unitOf (q .address) ≡ broadcastUnit → Leaves (framed c i q)
+  framed-leaves : (q : Request) → unitOf (q .address) ≡ broadcastUnit → Leaves (framed c i lag q)
   unfolding framed
   framed-leaves q a =
       by-cond Leaves (eqb (unitOf (q .address)) (c .unit)) (λ e. let n = eqb-true (unitOf (q .address)) (c .unit) e in absurd (omega arith))
       (λ e. by-cond Leaves (eqb (unitOf (q .address)) broadcastUnit) (λ e. made-leaves _ (broadcast-spares q)) (λ e. quiet-leaves OtherUnit))
 
-  stretch-leaves : (t : List ℕ) → unitOf (wordAt t 0) ≡ broadcastUnit → Leaves (judged c i t (heardOf t))
+  stretch-leaves : (t : List ℕ) → unitOf (wordAt t 0) ≡ broadcastUnit → Leaves (judged c i lag t (heardOf t))
   unfolding judged heardOf frameIn
   stretch-leaves t a =
-      let P : Heard → Type 0 = λ x. Leaves (judged c i t x) in
+      let P : Heard → Type 0 = λ x. Leaves (judged c i lag t x) in
       by-cond P (whole t) (λ e. by-cond P (checked t) (λ e. framed-leaves (requestIn (frameIn t) t) (unfold requestIn in a)) (λ e. quiet-leaves CheckWrong)) (λ e. quiet-leaves NotWhole)
 
 -- of every state, and a damaged one or one with a short buffer too
@@ -64,4 +64,4 @@ pub broadcast-untouched : (c : Config) (s : State) (t : Stretch) → c .unit ≤
 unfolding Leaves makeOf moves
 broadcast-untouched c s t h a =
     by-next (Untouched s) c s (stretch t) (record { hold = refl; write = refl; history = refl })
-    (λ f. let l = stretch-leaves c (s .inner) h (t .chars) a in record { hold = l .0; write = l .1; history = l .2 })
+    (λ f. let l = stretch-leaves c (s .inner) h (t .lag) (t .chars) a in record { hold = l .0; write = l .1; history = l .2 })

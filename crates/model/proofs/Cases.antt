@@ -44,7 +44,7 @@ use Rattle.model.specs.Scan.{counts, withNoData}
 use Rattle.model.specs.Inputs.{unreserved, chosen, wordOf, inputsOf, hasAccumulator, pulsesOf}
 use Rattle.model.specs.Control.{isOf, takes, selectWhen, operateWhen, selectOf, controlOf, operates, breaks, heldAfter}
 use Rattle.model.specs.Blocks.{known, ordinalStart, blockOf, reaches, waitsFor, writeWhen, writeOf, notExecuted, executes, executeWhen, executeOf, dropped, waitsAfter}
-use Rattle.model.specs.Clock.{bcd, fromBcd, digits, clockFits, timeIn, digitsFit, setTimeOf, timeOf, clockAt, clockAfter}
+use Rattle.model.specs.Clock.{bcd, fromBcd, digits, clockFits, timeIn, digitsFit, timeFits, setTimeOf, timeOf, clockAt, clockAfter}
 use Rattle.model.specs.History.{
   acknowledges,
   dumps,
@@ -271,7 +271,7 @@ unfolding
     unreserved chosen wordOf inputsOf hasAccumulator pulsesOf
     isOf takes selectWhen operateWhen selectOf controlOf operates breaks heldAfter
     known ordinalStart blockOf reaches waitsFor writeWhen writeOf notExecuted executes executeWhen executeOf dropped waitsAfter
-    bcd fromBcd digits clockFits timeIn digitsFit setTimeOf timeOf clockAt clockAfter
+    bcd fromBcd digits clockFits timeIn digitsFit timeFits setTimeOf timeOf clockAt clockAfter
     acknowledges dumps fileOf flat historyChars freedFor mostOf toldFrom tellOf historyOf recordChars storedWhen storedAs
     masterFits holdFits writeFits coreFits givable replyFits memoryFits fileFits historyFits areasFit portFits fits
     controlled timed written executed scanned internalOf otherOf statusOf sentAs answered quiet settled finished alone telling internalStep stepOf

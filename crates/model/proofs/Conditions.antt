@@ -17,6 +17,15 @@ pub by-bool : {X : Type 0} (b : Bool) → (b ≡ true → X) → (b ≡ false �
 by-bool true f g = f refl
 by-bool false f g = g refl
 
+-- two choices by one test, alike where they can differ
+pub cond-then : {A : Type 0} (b : Bool) {x y : A} (z : A) → (b ≡ true → x ≡ y) → cond b x z ≡ cond b y z
+cond-then true z e = e refl
+cond-then false z e = refl
+
+pub cond-else : {A : Type 0} (b : Bool) (x : A) {y z : A} → y ≡ z → cond b x y ≡ cond b x z
+cond-else true x e = refl
+cond-else false x e = e
+
 -- false is not true, so anything follows
 pub false-true {ℓ} : {A : Type ℓ} → false ≡ true → A
 false-true e = let z : _≡_ {A = ℕ} 0 1 = cc in absurd (omega arith)

@@ -59,7 +59,7 @@ unmoved : (c : Config) (i : Inner) (t : Stretch) → Damaged (t .chars) → Unmo
 unfolding makeOf judged quiet
 unmoved c i t d = go (unheard d)
   where
-    go : (heardOf (t .chars) ≡ Broken) ⊎ (heardOf (t .chars) ≡ Wrong) → Unmoved i (judged c i (t .chars) (heardOf (t .chars)))
+    go : (heardOf (t .chars) ≡ Broken) ⊎ (heardOf (t .chars) ≡ Wrong) → Unmoved i (judged c i (t .lag) (t .chars) (heardOf (t .chars)))
     go (inl e) = rw e (record { answer = inl refl; action = refl; sent = refl; inner = refl })
     go (inr e) = rw e (record { answer = inr refl; action = refl; sent = refl; inner = refl })
 

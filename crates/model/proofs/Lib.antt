@@ -23,6 +23,8 @@ pub mod Records
 pub mod Demand3
 pub mod Worked
 pub mod LowFirst
+pub mod Times
 pub mod SetTime
+pub mod Lag
 pub mod Broadcasts
 pub mod Nibbles

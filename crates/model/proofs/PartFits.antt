@@ -9,7 +9,7 @@ use native.Mathlib.Omega.{arith}
 use borrow.Author.Tests.{eqb-true, leb-true, le-leb, ltb-true, lt-ltb, eq-eqb}
 use Rattle.chars.specs.Gather.{upFrom, every}
 use Rattle.chars.specs.Word.{Characters, wordAt}
-use Rattle.model.specs.Limits.{holdTime, fileRoom}
+use Rattle.model.specs.Limits.{holdTime, mostLag, fileRoom}
 use Rattle.model.specs.Frame.{Request, masterOf, frameIn, requestIn}
 use Rattle.model.specs.Config.{Config, has, within, hasFile}
 use Rattle.model.specs.State.{Files, History, heldIn, storeIn}
@@ -27,7 +27,7 @@ use Rattle.model.specs.Control.{
   heldAfter,
 }
 use Rattle.model.specs.Blocks.{WriteResult, waitsFor, writeWhen, writeOf, waitsAfter}
-use Rattle.model.specs.Clock.{Timed, clockFits, timeIn, digitsFit, setTimeOf, clockAt, clockAfter}
+use Rattle.model.specs.Clock.{Timed, clockFits, timeIn, timeFits, setTimeOf, clockAt, clockAfter}
 use Rattle.model.specs.History.{fileOf, freedFor, mostOf, toldFrom}
 use Rattle.model.specs.Fits.{masterFits, holdFits, writeFits, givable, replyFits, memoryFits, fileFits, historyFits}
 use Rattle.model.specs.declared.Master.{Master}
@@ -51,14 +51,6 @@ pub heard-fits : (s : List ℕ) → Characters s → masterFits (masterOf (reque
 unfolding masterFits masterOf requestIn frameIn wordAt
 heard-fits s g = omega (arith, le-leb, g 0, g 1)
 
-pub setTime-fits : (k : Clock) (q : Request) → clockFits k ≡ true → clockFits (setTimeOf k q .clock) ≡ true
-unfolding setTimeOf
-setTime-fits k q h =
-    let P : Timed → Type 0 = λ r. clockFits (r .clock) ≡ true in
-    by-cond P (counts 7 q)
-    (λ e. by-cond P (digitsFit (q .body) && clockFits (timeIn (q .body))) (λ e. and-right (digitsFit (q .body)) _ e) (λ e. h))
-    (λ e. h)
-
 clock-fits : (k : Clock) → 1 ≤ k .day → k .day ≤ 366 → k .hour ≤ 23 → k .minute ≤ 59 → k .second ≤ 59 → k .ms ≤ 999 → clockFits k ≡ true
 unfolding clockFits within
 clock-fits k first day hour minute second ms =
@@ -72,6 +64,14 @@ clockAt-fits t h = clock-fits (clockAt t) (omega arith) (omega arith) (omega ari
 pub clockAfter-fits : (k : Clock) (ms : ℕ) → clockFits (clockAfter k ms) ≡ true
 unfolding clockAfter
 clockAfter-fits k ms = clockAt-fits _ (omega arith)
+
+pub setTime-fits : (lag : ℕ) (k : Clock) (q : Request) → clockFits k ≡ true → clockFits (setTimeOf lag k q .clock) ≡ true
+unfolding setTimeOf
+setTime-fits lag k q h =
+    let P : Timed → Type 0 = λ r. clockFits (r .clock) ≡ true in
+    by-cond P (counts 7 q)
+    (λ e. by-cond P (timeFits (q .body) && leb lag mostLag) (λ e. clockAfter-fits (timeIn (q .body)) lag) (λ e. h))
+    (λ e. h)
 
 -- ---- the select
 

@@ -109,7 +109,7 @@ record SteppedHas (p : Parts) (i : Inner) (m : Stepped) : Type 0 where
 -- it outlasts each definition that changes a part, and these are all
 pub record Lasts (c : Config) (p : Parts) : Type 0 where
   pub heard : (s : Stretch) → p .event (stretch s) → p .request (requestIn (frameIn (s .chars)) (s .chars))
-  pub set-time : (k : Clock) (q : Request) → p .clock k → p .clock (setTimeOf k q .clock)
+  pub set-time : (lag : ℕ) (k : Clock) (q : Request) → p .clock k → p .clock (setTimeOf lag k q .clock)
   pub clock-after : (k : Clock) (ms : ℕ) → p .clock k → p .clock (clockAfter k ms)
   pub free : p .hold Free
   pub control : (h : Hold) (q : Request) → p .request q → p .hold h → p .hold (controlOf (c .outputs) h q .hold)
@@ -163,9 +163,9 @@ module _ (c : Config) (p : Parts) (l : Lasts c p) where
         record { words = resetCount-long (c .inputs) (a .words) q; values = refl; fixed = refl; block = refl } in
         record { core = kh; areas = l .lengths a _ s ah }
 
-    timed-has : (q : Request) → StepHas p (timed k a (setTimeOf (k .clock) q))
+    timed-has : (lag : ℕ) (q : Request) → StepHas p (timed k a (setTimeOf lag (k .clock) q))
     unfolding timed
-    timed-has q = record { core = record { clock = l .set-time (k .clock) q (kh .clock); hold = kh .hold; write = kh .write }; areas = ah }
+    timed-has lag q = record { core = record { clock = l .set-time lag (k .clock) q (kh .clock); hold = kh .hold; write = kh .write }; areas = ah }
 
     controlled-has : (q : Request) → p .request q → StepHas p (controlled k a (controlOf (c .outputs) (k .hold) q))
     unfolding controlled
@@ -184,13 +184,13 @@ module _ (c : Config) (p : Parts) (l : Lasts c p) where
         let s : SameLengths a b = record { words = refl; values = refl; fixed = e .fixed; block = e .block } in
         record { core = record { clock = kh .clock; hold = kh .hold; write = kh .write }; areas = l .lengths a b s ah }
 
-    internal-has : (q : Request) → p .request q → StepHas p (internalOf c k a q)
+    internal-has : (lag : ℕ) (q : Request) → p .request q → StepHas p (internalOf c k a lag q)
     unfolding internalOf
-    internal-has q g =
+    internal-has lag q g =
         by-cond (StepHas p) (eqb (q .command) 0x11) (λ e. changed-has q)
         (λ e. by-cond (StepHas p) (eqb (q .command) 0x30) (λ e. written-has q g)
         (λ e. by-cond (StepHas p) (eqb (q .command) 0x31) (λ e. executed-has q)
-        (λ e. by-cond (StepHas p) (eqb (q .command) 0x38) (λ e. timed-has q)
+        (λ e. by-cond (StepHas p) (eqb (q .command) 0x38) (λ e. timed-has lag q)
         (λ e. scanned-has _))))
 
     return-has : (q : Request) → StepHas p (returnOf k a q)
@@ -210,11 +210,11 @@ module _ (c : Config) (p : Parts) (l : Lasts c p) where
         (λ e. by-cond (StepHas p) (eqb (q .function) 0x28) (λ e. return-has q)
         (λ e. scanned-has _)))))
 
-    broadcast-has : (q : Request) → StepHas p (broadcastOf c k a q)
+    broadcast-has : (lag : ℕ) (q : Request) → StepHas p (broadcastOf c k a lag q)
     unfolding broadcastOf
-    broadcast-has q =
+    broadcast-has lag q =
         by-cond (StepHas p) (eqb (q .function) 0x20 && eqb (q .command) 0x11) (λ e. changed-has q)
-        (λ e. by-cond (StepHas p) (eqb (q .function) 0x20 && eqb (q .command) 0x38) (λ e. timed-has q)
+        (λ e. by-cond (StepHas p) (eqb (q .function) 0x20 && eqb (q .command) 0x38) (λ e. timed-has lag q)
         (λ e. scanned-has _))
 
   module _ (i : Inner) (h : InnerHas p i) where
@@ -260,23 +260,23 @@ module _ (c : Config) (p : Parts) (l : Lasts c p) where
         (λ e. record { step = restarted-has; history = l .forgotten (i .history) (h .history) })
         (λ e. alone-has _ (scanned-has (i .core) (i .areas) (h .core) (h .areas) _))
 
-    internal-step-has : (q : Request) → p .request q → SteppedHas p i (internalStep c i q)
+    internal-step-has : (lag : ℕ) (q : Request) → p .request q → SteppedHas p i (internalStep c i lag q)
     unfolding internalStep
-    internal-step-has q g =
+    internal-step-has lag q g =
         by-cond (SteppedHas p i) (eqb (q .command) 0x00) (λ e. initial-has q)
-        (λ e. alone-has _ (internal-has (i .core) (i .areas) (h .core) (h .areas) q g))
+        (λ e. alone-has _ (internal-has (i .core) (i .areas) (h .core) (h .areas) lag q g))
 
-    step-has : (q : Request) → p .request q → SteppedHas p i (stepOf c i q)
+    step-has : (lag : ℕ) (q : Request) → p .request q → SteppedHas p i (stepOf c i lag q)
     unfolding stepOf
-    step-has q g =
+    step-has lag q g =
         by-cond (SteppedHas p i) (breaks (i .core .hold) q) (λ e. alone-has _ brokenOff-has)
         (λ e. by-cond (SteppedHas p i) (eqb (q .function) 0x04) (λ e. telling-has q g)
-        (λ e. by-cond (SteppedHas p i) (eqb (q .function) 0x20) (λ e. internal-step-has q g)
+        (λ e. by-cond (SteppedHas p i) (eqb (q .function) 0x20) (λ e. internal-step-has lag q g)
         (λ e. alone-has _ (other-has (i .core) (i .areas) (h .core) (h .areas) q g))))
 
-    served-has : (q : Request) → p .request q → Makes p (served c i q)
+    served-has : (lag : ℕ) (q : Request) → p .request q → Makes p (served c i lag q)
     unfolding served
-    served-has q g = finished-has i q _ (step-has q g)
+    served-has lag q g = finished-has i q _ (step-has lag q g)
 
     broadcastMade-has : (s : Step) → StepHas p s → Makes p (broadcastMade i s)
     unfolding Makes broadcastMade quiet
@@ -287,20 +287,20 @@ module _ (c : Config) (p : Parts) (l : Lasts c p) where
           history = h .history;
         }
 
-    framed-has : (q : Request) → p .request q → Makes p (framed c i q)
+    framed-has : (lag : ℕ) (q : Request) → p .request q → Makes p (framed c i lag q)
     unfolding framed
-    framed-has q g =
-        by-cond (Makes p) (eqb (unitOf (q .address)) (c .unit)) (λ e. served-has q g)
+    framed-has lag q g =
+        by-cond (Makes p) (eqb (unitOf (q .address)) (c .unit)) (λ e. served-has lag q g)
         (λ e. by-cond (Makes p) (eqb (unitOf (q .address)) broadcastUnit)
-        (λ e. broadcastMade-has _ (broadcast-has (i .core) (i .areas) (h .core) (h .areas) q))
+        (λ e. broadcastMade-has _ (broadcast-has (i .core) (i .areas) (h .core) (h .areas) lag q))
         (λ e. quiet-has (Ended OtherUnit) i h))
 
     -- a stretch that was not heard as a frame changes nothing
-    stretch-has : (s : List ℕ) → p .request (requestIn (frameIn s) s) → Makes p (judged c i s (heardOf s))
+    stretch-has : (lag : ℕ) (s : List ℕ) → p .request (requestIn (frameIn s) s) → Makes p (judged c i lag s (heardOf s))
     unfolding judged heardOf
-    stretch-has s g =
-        by-cond (λ x. Makes p (judged c i s x)) (whole s)
-        (λ e. by-cond (λ x. Makes p (judged c i s x)) (checked s) (λ e. framed-has (requestIn (frameIn s) s) g) (λ e. quiet-has (Ended CheckWrong) i h))
+    stretch-has lag s g =
+        by-cond (λ x. Makes p (judged c i lag s x)) (whole s)
+        (λ e. by-cond (λ x. Makes p (judged c i lag s x)) (checked s) (λ e. framed-has lag (requestIn (frameIn s) s) g) (λ e. quiet-has (Ended CheckWrong) i h))
         (λ e. quiet-has (Ended NotWhole) i h)
 
     elapsed-has : (ms : ℕ) → Makes p (elapsedMade i ms)
@@ -346,7 +346,7 @@ module _ (c : Config) (p : Parts) (l : Lasts c p) where
 
     makes : (e : Event) → p .event e → Makes p (makeOf c i e)
     unfolding makeOf
-    makes (stretch s) g = stretch-has (s .chars) (l .heard s g)
+    makes (stretch s) g = stretch-has (s .lag) (s .chars) (l .heard s g)
     makes (elapsed ms) g = elapsed-has ms
     makes (local e) g = makes-local e
 

@@ -28,7 +28,7 @@ use Rattle.model.proofs.TurnedAway.{short-away, unfit-away, works}
 pub refusal : (c : Config) (i : Inner) (t : Stretch) (o : Outcome) → makeOf c i (stretch t) .answer ≡ Ended o
     → carriedOut o ≡ false → Refused (requestIn (frameIn (t .chars)) (t .chars)) o i (makeOf c i (stretch t))
 unfolding makeOf
-refusal c i t o = judged-meets c i (t .chars) .refuses o
+refusal c i t o = judged-meets c i (t .lag) (t .chars) .refuses o
 
 -- and so for every other event: only a full file leaves a trace, bit 3
 pub refusal-local : (c : Config) (i : Inner) (e : Event) → arrives e ≡ false → succeeded (makeOf c i e .answer) ≡ false

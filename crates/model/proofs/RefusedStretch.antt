@@ -142,23 +142,23 @@ module _ (i : Inner) (q : Request) where
       by-cond (Meets q i (finished i q)) (counts 0 q) (λ e. carries-out Done refl refl)
       (λ e. alone-meets (scanned (i .core) (i .areas) (refuses WrongCount)) (declines refl refl))
 
-  internal-meets : (c : Config) → Meets q i (finished i q) (internalStep c i q)
+  internal-meets : (c : Config) (lag : ℕ) → Meets q i (finished i q) (internalStep c i lag q)
   unfolding internalStep
-  internal-meets c =
-      by-cond (Meets q i (finished i q)) (eqb (q .command) 0x00) (λ e. initial-meets) (λ e. alone-meets _ (internal-kept (i .core) (i .areas) c q))
+  internal-meets c lag =
+      by-cond (Meets q i (finished i q)) (eqb (q .command) 0x00) (λ e. initial-meets) (λ e. alone-meets _ (internal-kept (i .core) (i .areas) c lag q))
 
-  step-meets : (c : Config) → Meets q i (finished i q) (stepOf c i q)
+  step-meets : (c : Config) (lag : ℕ) → Meets q i (finished i q) (stepOf c i lag q)
   unfolding stepOf
-  step-meets c =
+  step-meets c lag =
       let P : Stepped → Type 0 = Meets q i (finished i q) in
       by-cond P (breaks (i .core .hold) q) (λ e. alone-meets _ (broken-off-kept (i .core) (i .areas)))
       (λ e. by-cond P (eqb (q .function) 0x04) (λ e. history-meets (c .files) (c .values))
-      (λ e. by-cond P (eqb (q .function) 0x20) (λ e. internal-meets c)
+      (λ e. by-cond P (eqb (q .function) 0x20) (λ e. internal-meets c lag)
       (λ e. alone-meets _ (other-kept (i .core) (i .areas) c q))))
 
-  served-meets : (c : Config) → Meets q i made (served c i q)
+  served-meets : (c : Config) (lag : ℕ) → Meets q i made (served c i lag q)
   unfolding served
-  served-meets c = meets-made (step-meets c)
+  served-meets c lag = meets-made (step-meets c lag)
 
   broadcast-meets : (p : Step) → Plain (i .core) (i .areas) itself p → Meets q i (broadcastMade i) p
   unfolding broadcastMade quiet carriedOut refusedInner refusedCore refusedHold refusedWrite refusedBroadcast declined within replies
@@ -176,20 +176,20 @@ module _ (i : Inner) (q : Request) where
   unfolding quiet replies
   passes o a b d = meets o refl (λ n. record { inner = sym a; action = refl; sent = sym b; row = d })
 
-  framed-meets : (c : Config) → Meets q i made (framed c i q)
+  framed-meets : (c : Config) (lag : ℕ) → Meets q i made (framed c i lag q)
   unfolding framed refusedInner refusedCore refusedHold refusedWrite refusedBroadcast declined within
-  framed-meets c =
+  framed-meets c lag =
       let P : Made → Type 0 = Meets q i made in
-      by-cond P (eqb (unitOf (q .address)) (c .unit)) (λ e. served-meets c)
-      (λ e. by-cond P (eqb (unitOf (q .address)) broadcastUnit) (λ e. meets-made (broadcast-meets _ (broadcast-plain (i .core) (i .areas) c q)))
+      by-cond P (eqb (unitOf (q .address)) (c .unit)) (λ e. served-meets c lag)
+      (λ e. by-cond P (eqb (unitOf (q .address)) broadcastUnit) (λ e. meets-made (broadcast-meets _ (broadcast-plain (i .core) (i .areas) c lag q)))
       (λ e. passes OtherUnit refl refl (omega arith)))
 
-pub judged-meets : (c : Config) (i : Inner) (t : List ℕ) → Meets (requestIn (frameIn t) t) i (judged c i t) (heardOf t)
+pub judged-meets : (c : Config) (i : Inner) (lag : ℕ) (t : List ℕ) → Meets (requestIn (frameIn t) t) i (judged c i lag t) (heardOf t)
 unfolding heardOf judged refusedInner refusedCore refusedHold refusedWrite refusedBroadcast declined within
-judged-meets c i t =
+judged-meets c i lag t =
     let q = requestIn (frameIn t) t in
-    let P : Heard → Type 0 = Meets q i (judged c i t) in
+    let P : Heard → Type 0 = Meets q i (judged c i lag t) in
     by-cond P (whole t)
-    (λ e. by-cond P (checked t) (λ e. record { refuses = framed-meets i q c .refuses })
+    (λ e. by-cond P (checked t) (λ e. record { refuses = framed-meets i q c lag .refuses })
     (λ e. record { refuses = passes i q CheckWrong refl refl (omega arith) .refuses }))
     (λ e. record { refuses = passes i q NotWhole refl refl (omega arith) .refuses })

@@ -9,7 +9,7 @@ use lib.Dec.{eqb, leb, ltb}
 use borrow.Author.Tests.{not-true, leb-true, ne-eqb}
 use Rattle.chars.specs.Word.{wordAt}
 use Rattle.chars.specs.Gather.{gather, upFrom}
-use Rattle.model.specs.Limits.{mostData, mostAsked}
+use Rattle.model.specs.Limits.{mostData, mostAsked, mostLag}
 use Rattle.model.specs.Frame.{Request, masterOf}
 use Rattle.model.specs.Outcome.{numberOf, carriedOut}
 use Rattle.model.specs.Config.{Config, has, within}
@@ -20,7 +20,7 @@ use Rattle.model.specs.Tables.{sendable, sendOf, tableScan, tablesOf}
 use Rattle.model.specs.Calculations.{fitting, valueOf, allOf, pairOf, missingOf, askedOf, calculationsOf}
 use Rattle.model.specs.Control.{Controlled, isOf, takes, selectWhen, operateWhen, resetWhen, selectOf, controlOf}
 use Rattle.model.specs.Blocks.{reaches, waitsFor, writeWhen, writeOf, notExecuted, executes, executeWhen, executeOf, returned, readOf}
-use Rattle.model.specs.Clock.{Timed, digitsFit, clockFits, timeIn, setTimeOf, readTimeOf}
+use Rattle.model.specs.Clock.{Timed, timeFits, setTimeOf, readTimeOf}
 use Rattle.model.specs.Step.{Step, withHold, withWrite, scanned, changed, controlled, timed, written, executed, internalOf, returnOf, otherOf, brokenOff, broadcastOf}
 use Rattle.model.specs.Refusal.{declined, refusedHold}
 use Rattle.model.specs.declared.Outcome.{Outcome}
@@ -125,11 +125,11 @@ module _ (k : Core) (a : Areas) where
       let P : Changed → Type 0 = Plain k a (changed k a) in
       by-cond P (counts 1 q) (λ e. by-cond P (hasAccumulator table (getD (q .body) 0 0)) (λ e. does refl) (λ e. leaves refl refl)) (λ e. leaves refl refl)
 
-  set-time-plain : (q : Request) → Plain k a (timed k a) (setTimeOf (k .clock) q)
+  set-time-plain : (lag : ℕ) (q : Request) → Plain k a (timed k a) (setTimeOf lag (k .clock) q)
   unfolding setTimeOf timed
-  set-time-plain q =
+  set-time-plain lag q =
       let P : Timed → Type 0 = Plain k a (timed k a) in
-      by-cond P (counts 7 q) (λ e. by-cond P (digitsFit (q .body) && clockFits (timeIn (q .body))) (λ e. does refl) (λ e. leaves refl refl)) (λ e. leaves refl refl)
+      by-cond P (counts 7 q) (λ e. by-cond P (timeFits (q .body) && leb lag mostLag) (λ e. does refl) (λ e. leaves refl refl)) (λ e. leaves refl refl)
 
   executes-plain : (o bias : ℕ) (ys : List ℕ) → Plain k a (executed k a) (executes (a .fixed) (a .block) o bias ys)
   unfolding executes notExecuted executed
@@ -251,14 +251,14 @@ module _ (k : Core) (a : Areas) where
   unfolding scanned declined within refusedHold
   unknown-kept = declines refl refl
 
-  pub internal-kept : (c : Config) (q : Request) → Kept k a itself (internalOf c k a q)
+  pub internal-kept : (c : Config) (lag : ℕ) (q : Request) → Kept k a itself (internalOf c k a lag q)
   unfolding internalOf
-  internal-kept c q =
+  internal-kept c lag q =
       let P : Step → Type 0 = Kept k a itself in
       by-cond P (eqb (q .command) 0x11) (λ e. kept-step (plain-kept (reset-count-plain k a (c .inputs) q)))
       (λ e. by-cond P (eqb (q .command) 0x30) (λ e. kept-step (write-kept (k .write) q))
       (λ e. by-cond P (eqb (q .command) 0x31) (λ e. kept-step (plain-kept (execute-plain k a (k .write) q)))
-      (λ e. by-cond P (eqb (q .command) 0x38) (λ e. kept-step (plain-kept (set-time-plain k a q)))
+      (λ e. by-cond P (eqb (q .command) 0x38) (λ e. kept-step (plain-kept (set-time-plain k a lag q)))
       (λ e. unknown-kept))))
 
   return-kept : (q : Request) → Kept k a itself (returnOf k a q)
@@ -285,10 +285,10 @@ module _ (k : Core) (a : Areas) where
   broken-off-kept = declines refl refl
 
   -- a broadcast is done or leaves all as it was
-  pub broadcast-plain : (c : Config) (q : Request) → Plain k a itself (broadcastOf c k a q)
+  pub broadcast-plain : (c : Config) (lag : ℕ) (q : Request) → Plain k a itself (broadcastOf c k a lag q)
   unfolding broadcastOf scanned
-  broadcast-plain c q =
+  broadcast-plain c lag q =
       let P : Step → Type 0 = Plain k a itself in
       by-cond P (eqb (q .function) 0x20 && eqb (q .command) 0x11) (λ e. plain-step (reset-count-plain k a (c .inputs) q))
-      (λ e. by-cond P (eqb (q .function) 0x20 && eqb (q .command) 0x38) (λ e. plain-step (set-time-plain k a q))
+      (λ e. by-cond P (eqb (q .function) 0x20 && eqb (q .command) 0x38) (λ e. plain-step (set-time-plain k a lag q))
       (λ e. leaves refl refl))

@@ -158,12 +158,12 @@ module _ (c : Config) (l : Latest) (i : Inner) (mark : Mark) (q : Request) (t : 
       by-cond (λ m. Fine c l i mark q (finished i q m)) (counts 0 q) (λ n. forgot-fine a)
       (λ n. refused-fine (scanned (i .core) (i .areas) (refuses WrongCount)) (omega arith))
 
-  internal-fine : q .function ≡ 0x20 → Fine c l i mark q (finished i q (internalStep c i q))
+  internal-fine : (lag : ℕ) → q .function ≡ 0x20 → Fine c l i mark q (finished i q (internalStep c i lag q))
   unfolding internalStep initialises
-  internal-fine a =
+  internal-fine lag a =
       by-cond (λ m. Fine c l i mark q (finished i q m)) (eqb (q .command) 0x00)
       (λ e. initial-fine (and-both (eq-eqb _ _ a) e))
-      (λ e. keeps-fine (internalOf c (i .core) (i .areas) q) (rw a) (rw (a, e)))
+      (λ e. keeps-fine (internalOf c (i .core) (i .areas) lag q) (rw a) (rw (a, e)))
 
   untold-fine : (o : Outcome) → 64 ≤ functionBits (sendingOf o) → Fine c l i mark q (finished i q (telling i (untold o (i .history .memory))))
   unfolding Fine telling scanned untold finished changedBy applied replyFunction
@@ -259,13 +259,13 @@ module _ (c : Config) (l : Latest) (i : Inner) (mark : Mark) (t : Matches (i .hi
       (λ e. untold-fine c l i mark q t WrongCount (omega arith)))
       (λ e. untold-fine c l i mark q t Unknown (omega arith))
 
-  served-fine : (q : Request) → Fine c l i mark q (served c i q)
+  served-fine : (lag : ℕ) (q : Request) → Fine c l i mark q (served c i lag q)
   unfolding served stepOf brokenOff scanned initialises
-  served-fine q =
+  served-fine lag q =
       let P : Stepped → Type 0 = λ m. Fine c l i mark q (finished i q m) in
       by-cond P (breaks (i .core .hold) q) (λ e. refused-fine c l i mark q t (brokenOff (i .core) (i .areas)) (omega arith))
       (λ e. by-cond P (eqb (q .function) 0x04) (λ a. history-fine q (eqb-true _ _ a))
-      (λ a. by-cond P (eqb (q .function) 0x20) (λ b. internal-fine c l i mark q t (eqb-true _ _ b))
+      (λ a. by-cond P (eqb (q .function) 0x20) (λ b. internal-fine c l i mark q t lag (eqb-true _ _ b))
       (λ b. keeps-fine c l i mark q t (otherOf c (i .core) (i .areas) q) a (rw b))))
 
   -- ---- any other stretch
@@ -278,18 +278,18 @@ module _ (c : Config) (l : Latest) (i : Inner) (mark : Mark) (t : Matches (i .hi
   unfolding broadcastMade
   broadcast-fine q p = quiet-fine q _ _ _
 
-  framed-fine : (q : Request) → Fine c l i mark q (framed c i q)
+  framed-fine : (lag : ℕ) (q : Request) → Fine c l i mark q (framed c i lag q)
   unfolding framed
-  framed-fine q =
+  framed-fine lag q =
       let P : Made → Type 0 = Fine c l i mark q in
-      by-cond P (eqb (unitOf (q .address)) (c .unit)) (λ e. served-fine q)
-      (λ e. by-cond P (eqb (unitOf (q .address)) broadcastUnit) (λ e. broadcast-fine q (broadcastOf c (i .core) (i .areas) q)) (λ e. quiet-fine q (Ended OtherUnit) (i .core) (i .areas)))
+      by-cond P (eqb (unitOf (q .address)) (c .unit)) (λ e. served-fine lag q)
+      (λ e. by-cond P (eqb (unitOf (q .address)) broadcastUnit) (λ e. broadcast-fine q (broadcastOf c (i .core) (i .areas) lag q)) (λ e. quiet-fine q (Ended OtherUnit) (i .core) (i .areas)))
 
-  judged-fine : (s : List ℕ) (h : Heard) → Moved l (i .history) (shownIn c s h (sentChars mark (judged c i s h .sent))) nothing (judged c i s h .inner .history)
+  judged-fine : (lag : ℕ) (s : List ℕ) (h : Heard) → Moved l (i .history) (shownIn c s h (sentChars mark (judged c i lag s h .sent))) nothing (judged c i lag s h .inner .history)
   unfolding Fine shownIn judged quiet
-  judged-fine s Broken = still t refl
-  judged-fine s Wrong = still t refl
-  judged-fine s (Whole f) = framed-fine (requestIn f s)
+  judged-fine lag s Broken = still t refl
+  judged-fine lag s Wrong = still t refl
+  judged-fine lag s (Whole f) = framed-fine lag (requestIn f s)
 
 -- ---- an event
 
@@ -362,6 +362,6 @@ module _ (c : Config) (l : Latest) (i : Inner) (mark : Mark) (t : Matches (i .hi
 
     pub made-fine : (e : Event) → FineEvent c l i mark e (makeOf c i e)
     unfolding makeOf shownBy storedBy quiet sentChars elapsedMade
-    made-fine (stretch s) = judged-fine c l i mark t sized (s .chars) (heardOf (s .chars))
+    made-fine (stretch s) = judged-fine c l i mark t sized (s .lag) (s .chars) (heardOf (s .chars))
     made-fine (elapsed ms) = still t refl
     made-fine (local e) = local-fine e

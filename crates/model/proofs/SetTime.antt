@@ -1,17 +1,19 @@
--- What Set Time leaves in the clock: the time whose seven characters were sent, field by field, which Read Time then returns. Assumes nothing.
+-- What Set Time leaves in the clock: the time whose seven characters were sent, field by field, moved by the lag, which Read Time then returns.
+-- Assumes nothing.
 use Prim.Native.Nat.{ℕ, _+_, _*_, _/_, _%_, _≤_, _<_}
-use mathlib.Core.Path.{_≡_, refl, sym, ap, _∙_}
+use mathlib.Core.Path.{_≡_, ap, _∙_}
 use mathlib.Core.List.{List, [], _∷_}
-use mathlib.Core.Bool.{Bool, true, cond, _&&_}
-use lib.Dec.{eqb, leb}
+use mathlib.Core.Bool.{true}
 use native.Mathlib.Omega.{arith}
-use borrow.Author.Tests.{leb-true, le-leb}
+use borrow.Author.Tests.{le-leb, lt-leb}
+use Rattle.model.specs.Limits.{mostLag}
 use Rattle.model.specs.Frame.{Request}
-use Rattle.model.specs.Config.{within}
-use Rattle.model.specs.Scan.{counts, withNoData, tells}
-use Rattle.model.specs.Clock.{bcd, fromBcd, digits, clockFits, timeIn, digitsFit, Timed, setTimeOf, timeChars, readTimeOf}
+use Rattle.model.specs.Scan.{counts, withNoData, tells, refuses}
+use Rattle.model.specs.Clock.{bcd, fromBcd, digits, clockFits, timeIn, digitsFit, timeFits, clockAfter, setTimeOf, timeChars, readTimeOf}
+use Rattle.model.specs.declared.Outcome.the-variants.{NotValid}
 use Rattle.model.specs.declared.Clock.{Clock}
-use Rattle.model.proofs.Conditions.{and-left, and-right, and-both}
+use Rattle.model.proofs.Conditions.{and-both}
+use Rattle.model.proofs.Times.{ranges, after-none}
 
 bcd-back : (n : ℕ) → n < 100 → fromBcd (bcd n) ≡ n
 unfolding fromBcd bcd
@@ -21,29 +23,6 @@ bcd-digits : (n : ℕ) → n < 100 → digits (bcd n) ≡ true
 unfolding digits bcd
 bcd-digits n h =
     and-both (le-leb ((n / 10 * 16 + n % 10) / 16) 9 (omega arith)) (le-leb ((n / 10 * 16 + n % 10) % 16) 9 (omega arith))
-
--- the fields of a clock in range
-record Ranges (k : Clock) : Type 0 where
-  day : k .day ≤ 366
-  hour : k .hour ≤ 23
-  minute : k .minute ≤ 59
-  second : k .second ≤ 59
-  ms : k .ms ≤ 999
-
-ranges : (k : Clock) → clockFits k ≡ true → Ranges k
-unfolding clockFits within
-ranges k e =
-    let a = and-left (leb 1 (k .day) && leb (k .day) 366) _ e in
-    let b = and-right (leb 1 (k .day) && leb (k .day) 366) _ e in
-    let c = and-right (leb (k .hour) 23) _ b in
-    let d = and-right (leb (k .minute) 59) _ c in
-    record {
-      day = leb-true (k .day) 366 (and-right (leb 1 (k .day)) _ a);
-      hour = leb-true (k .hour) 23 (and-left (leb (k .hour) 23) _ b);
-      minute = leb-true (k .minute) 59 (and-left (leb (k .minute) 59) _ c);
-      second = leb-true (k .second) 59 (and-left (leb (k .second) 59) _ d);
-      ms = leb-true (k .ms) 999 (and-right (leb (k .second) 59) _ d);
-    }
 
 -- the seven characters of a time: day hundreds, day rest, hour, minute and second in decimal digits, milliseconds in two, high first (Write 14)
 abbrev sevenOf : Clock → List ℕ
@@ -73,12 +52,27 @@ module _ (t : Clock) (h : clockFits t ≡ true) where
       (and-both (bcd-digits (t .hour) (omega arith))
       (and-both (bcd-digits (t .minute) (omega arith)) (and-both (bcd-digits (t .second) (omega arith)) (le-leb (t .ms / 256) 15 (omega arith))))))
 
-  -- they are taken, and the clock is that time then, whatever it was
-  pub set-time : (k : Clock) (q : Request) → q .body ≡ sevenOf t → setTimeOf k q ≡ record { says = tells []; clock = t }
-  unfolding setTimeOf counts
-  set-time k q e = rw (e, told-digits, told-back, h)
+  told-fits : timeFits (sevenOf t) ≡ true
+  unfolding timeFits
+  told-fits = and-both told-digits (rw told-back h)
 
-  -- and Read Time returns them
-  pub time-returned : (k : Clock) (q r : Request) → q .body ≡ sevenOf t → counts 0 r ≡ true → readTimeOf (setTimeOf k q .clock) r ≡ tells (sevenOf t)
+  -- they are taken with every lag up to the most, and the clock is that time moved by it, whatever it was (Request 2.3)
+  pub set-time : (lag : ℕ) → lag ≤ mostLag → (k : Clock) (q : Request) → q .body ≡ sevenOf t
+      → setTimeOf lag k q ≡ record { says = tells []; clock = clockAfter t lag }
+  unfolding setTimeOf counts
+  set-time lag l k q e = rw (e, told-fits, le-leb lag mostLag l, told-back)
+
+  -- without a lag it is that time
+  pub set-time-now : (k : Clock) (q : Request) → q .body ≡ sevenOf t → setTimeOf 0 k q ≡ record { says = tells []; clock = t }
+  set-time-now k q e = set-time 0 (omega arith) k q e ∙ ap (λ (x : Clock). record { says = tells []; clock = x }) (after-none t h)
+
+  -- with more they are refused (Request 2.5)
+  pub set-late : (lag : ℕ) → mostLag < lag → (k : Clock) (q : Request) → q .body ≡ sevenOf t → setTimeOf lag k q ≡ record { says = refuses NotValid; clock = k }
+  unfolding setTimeOf counts
+  set-late lag l k q e = rw (e, told-fits, lt-leb lag mostLag l)
+
+  -- and Read Time returns the time sent, moved by the lag
+  pub time-returned : (lag : ℕ) → lag ≤ mostLag → (k : Clock) (q r : Request) → q .body ≡ sevenOf t → counts 0 r ≡ true
+      → readTimeOf (setTimeOf lag k q .clock) r ≡ tells (sevenOf (clockAfter t lag))
   unfolding readTimeOf withNoData timeChars
-  time-returned k q r e n = rw (set-time k q e, n)
+  time-returned lag l k q r e n = rw (set-time lag l k q e, n)

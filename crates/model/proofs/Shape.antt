@@ -136,7 +136,7 @@ forming-lasts : (c : Config) → Lasts c (forming c)
 forming-lasts c =
     record {
       heard = λ s g. tt;
-      set-time = λ k q h. tt;
+      set-time = λ lag k q h. tt;
       clock-after = λ k ms h. tt;
       free = tt;
       control = λ h q g k. tt;

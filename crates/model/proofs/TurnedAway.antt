@@ -67,7 +67,7 @@ module _ (c : Config) (i : Inner) where
 
   refused-row : (e : Event) (o : Outcome) → makeOf c i e .answer ≡ Ended o → carriedOut o ≡ false → numberOf o ≤ 16
   unfolding arrives makeOf
-  refused-row (stretch t) o a n = judged-meets c i (t .chars) .refuses o a n .row
+  refused-row (stretch t) o a n = judged-meets c i (t .lag) (t .chars) .refuses o a n .row
   refused-row (elapsed ms) o a n = local-row (elapsed ms) o refl a n
   refused-row (local e) o a n = local-row (local e) o refl a n
 

@@ -18,9 +18,9 @@ benchConfig =
       block = 0;
     }
 
--- with a buffer that is just long enough
+-- with a buffer that is just long enough, and no lag (Request 2.3)
 abbrev pub withRoom : List ℕ → Stretch
-withRoom s = record { room = longestReply; chars = s }
+withRoom s = record { room = longestReply; chars = s; lag = 0 }
 
 abbrev pub hears : List ℕ → Event
 hears s = stretch (withRoom s)

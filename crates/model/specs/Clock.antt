@@ -4,6 +4,7 @@ use mathlib.Core.List.{List, [], _∷_}
 use mathlib.Core.Bool.{Bool, true, false, cond, _&&_}
 use lib.ListN.{getD}
 use lib.Dec.{leb}
+use Rattle.model.specs.Limits.{mostLag}
 use Rattle.model.specs.Frame.{Request}
 use Rattle.model.specs.Config.{within}
 use Rattle.model.specs.Scan.{Scan, tells, refuses, withNoData, counts}
@@ -42,25 +43,9 @@ unfoldable pub digitsFit : List ℕ → Bool
 digitsFit s =
     leb (getD s 0 0) 9 && (digits (getD s 1 0) && (digits (getD s 2 0) && (digits (getD s 3 0) && (digits (getD s 4 0) && leb (getD s 5 0) 15))))
 
--- what Set Time comes to
-pub record Timed : Type 0 where
-  pub says : Scan
-  pub clock : Clock
-
--- 20h/38h: the clock takes the time sent (Write 14, 15)
-unfoldable pub setTimeOf : Clock → Request → Timed
-setTimeOf k q =
-    cond (counts 7 q)
-    (cond (digitsFit (q .body) && clockFits (timeIn (q .body))) (record { says = tells []; clock = timeIn (q .body) }) (record { says = refuses NotValid; clock = k }))
-    (record { says = refuses WrongCount; clock = k })
-
--- the seven characters of a clock (Write 17; paper 7.2)
-unfoldable pub timeChars : Clock → List ℕ
-timeChars k = k .day / 100 ∷ bcd (k .day % 100) ∷ bcd (k .hour) ∷ bcd (k .minute) ∷ bcd (k .second) ∷ k .ms / 256 ∷ k .ms % 256 ∷ []
-
--- 28h/31h (Write 17)
-unfoldable pub readTimeOf : Clock → Request → Scan
-readTimeOf k q = withNoData q (tells (timeChars k))
+-- the date checks: the digits, then the time that they tell (Write 14)
+unfoldable pub timeFits : List ℕ → Bool
+timeFits s = digitsFit s && clockFits (timeIn s)
 
 -- a clock as the milliseconds since day 1, 00:00:00.000, and back
 unfoldable pub timeOf : Clock → ℕ
@@ -79,3 +64,25 @@ clockAt t =
 -- time passes; after day 366 comes day 1 (Outcomes 9; Write 16)
 unfoldable pub clockAfter : Clock → ℕ → Clock
 clockAfter k ms = clockAt ((timeOf k + ms) % (366 * 86400000))
+
+-- what Set Time comes to
+pub record Timed : Type 0 where
+  pub says : Scan
+  pub clock : Clock
+
+-- 20h/38h: the clock takes the time sent, which was that of the sync point, moved by the lag since (Write 14, 15; Request 2.3, 2.5)
+unfoldable pub setTimeOf : ℕ → Clock → Request → Timed
+setTimeOf lag k q =
+    cond (counts 7 q)
+    (cond (timeFits (q .body) && leb lag mostLag)
+    (record { says = tells []; clock = clockAfter (timeIn (q .body)) lag })
+    (record { says = refuses NotValid; clock = k }))
+    (record { says = refuses WrongCount; clock = k })
+
+-- the seven characters of a clock (Write 17; paper 7.2)
+unfoldable pub timeChars : Clock → List ℕ
+timeChars k = k .day / 100 ∷ bcd (k .day % 100) ∷ bcd (k .hour) ∷ bcd (k .minute) ∷ bcd (k .second) ∷ k .ms / 256 ∷ k .ms % 256 ∷ []
+
+-- 28h/31h (Write 17)
+unfoldable pub readTimeOf : Clock → Request → Scan
+readTimeOf k q = withNoData q (tells (timeChars k))

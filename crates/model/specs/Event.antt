@@ -5,10 +5,12 @@ use Rattle.model.specs.declared.Input.{Input}
 use Rattle.model.specs.declared.SpecialCalculation.{SpecialCalculation}
 use Rattle.model.specs.declared.File.{File}
 
--- a stretch as it comes: the length of the lent buffer, and its characters (Covers 3; Frames 17)
+-- a stretch as it comes: the length of the lent buffer, its characters, and the milliseconds from the sync point to the idle mark (Covers 3;
+-- Frames 17; Request 2.3)
 pub record Stretch : Type 0 where
   pub room : ℕ
   pub chars : List ℕ
+  pub lag : ℕ
 
 -- a word set, a calculation value set, pulses counted, a record stored (Scans 3)
 pub data Local : Type 0 where

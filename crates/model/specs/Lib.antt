@@ -23,6 +23,7 @@ pub mod Laws
 pub mod Bench
 pub mod Formed
 pub mod Refusal
+pub mod Lag
 pub mod Line
 pub mod Damage
 pub mod Demand3

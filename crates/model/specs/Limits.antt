@@ -30,6 +30,10 @@ holdTime = 5000
 abbrev pub silenceLimit : ℕ
 silenceLimit = 60000
 
+-- the sync point is at most 10,000 ms before the idle mark (Request 2.3, 2.5)
+abbrev pub mostLag : ℕ
+mostLag = 10000
+
 -- a record has six characters and two for each of up to 16 values; a file holds 32 records (History 3, 4)
 abbrev pub recordHead : ℕ
 recordHead = 6

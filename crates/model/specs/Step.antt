@@ -108,13 +108,13 @@ executed k a r =
 
 -- ---- the functions that see no history (Covers 1)
 
--- function 20h but for 20h/00 (paper 6.3 to 6.5)
-unfoldable pub internalOf : Config → Core → Areas → Request → Step
-internalOf c k a q =
+-- function 20h but for 20h/00; of the lag only Set Time makes anything (paper 6.3 to 6.5; Request 2.3)
+unfoldable pub internalOf : Config → Core → Areas → ℕ → Request → Step
+internalOf c k a lag q =
     cond (eqb (q .command) 0x11) (changed k a (resetCountOf (c .inputs) (a .words) q))
     (cond (eqb (q .command) 0x30) (written k a (writeOf (k .write) q))
     (cond (eqb (q .command) 0x31) (executed k a (executeOf (k .write) (a .fixed) (a .block) q))
-    (cond (eqb (q .command) 0x38) (timed k a (setTimeOf (k .clock) q))
+    (cond (eqb (q .command) 0x38) (timed k a (setTimeOf lag (k .clock) q))
     (scanned k a (refuses Unknown)))))
 
 -- function 28h (paper 7)
@@ -229,27 +229,27 @@ initialStep i q =
     (alone i (scanned (i .core) (i .areas) (refuses WrongCount)))
 
 -- function 20h (paper 6.1)
-unfoldable pub internalStep : Config → Inner → Request → Stepped
-internalStep c i q = cond (eqb (q .command) 0x00) (initialStep i q) (alone i (internalOf c (i .core) (i .areas) q))
+unfoldable pub internalStep : Config → Inner → ℕ → Request → Stepped
+internalStep c i lag q = cond (eqb (q .command) 0x00) (initialStep i q) (alone i (internalOf c (i .core) (i .areas) lag q))
 
 -- 12 comes before 6 and 7, and these before what each function judges (Outcomes 1)
-unfoldable pub stepOf : Config → Inner → Request → Stepped
-stepOf c i q =
+unfoldable pub stepOf : Config → Inner → ℕ → Request → Stepped
+stepOf c i lag q =
     cond (breaks (i .core .hold) q) (alone i (brokenOff (i .core) (i .areas)))
     (cond (eqb (q .function) 0x04) (telling i (historyOf (c .files) (c .values) (i .history) q))
-    (cond (eqb (q .function) 0x20) (internalStep c i q)
+    (cond (eqb (q .function) 0x20) (internalStep c i lag q)
     (alone i (otherOf c (i .core) (i .areas) q))))
 
-unfoldable pub served : Config → Inner → Request → Made
-served c i q = finished i q (stepOf c i q)
+unfoldable pub served : Config → Inner → ℕ → Request → Made
+served c i lag q = finished i q (stepOf c i lag q)
 
 -- ---- a broadcast
 
 -- 20h/11h and 20h/38h only, under the same checks (Outcomes 10)
-unfoldable pub broadcastOf : Config → Core → Areas → Request → Step
-broadcastOf c k a q =
+unfoldable pub broadcastOf : Config → Core → Areas → ℕ → Request → Step
+broadcastOf c k a lag q =
     cond (eqb (q .function) 0x20 && eqb (q .command) 0x11) (changed k a (resetCountOf (c .inputs) (a .words) q))
-    (cond (eqb (q .function) 0x20 && eqb (q .command) 0x38) (timed k a (setTimeOf (k .clock) q))
+    (cond (eqb (q .function) 0x20 && eqb (q .command) 0x38) (timed k a (setTimeOf lag (k .clock) q))
     (scanned k a (refuses Unknown)))
 
 -- it is not answered, and sets bit 2; select, write and history reply stand (Outcomes 10, 11; Frames 10)
@@ -261,17 +261,17 @@ broadcastMade i p =
 -- ---- a stretch
 
 -- for this unit, for all, or for another (Outcomes 1; row 3)
-unfoldable pub framed : Config → Inner → Request → Made
-framed c i q =
-    cond (eqb (unitOf (q .address)) (c .unit)) (served c i q)
-    (cond (eqb (unitOf (q .address)) broadcastUnit) (broadcastMade i (broadcastOf c (i .core) (i .areas) q))
+unfoldable pub framed : Config → Inner → ℕ → Request → Made
+framed c i lag q =
+    cond (eqb (unitOf (q .address)) (c .unit)) (served c i lag q)
+    (cond (eqb (unitOf (q .address)) broadcastUnit) (broadcastMade i (broadcastOf c (i .core) (i .areas) lag q))
     (quiet (Ended OtherUnit) i))
 
 -- damage changes nothing here (rows 1, 2)
-unfoldable pub judged : Config → Inner → List ℕ → Heard → Made
-judged c i s Broken = quiet (Ended NotWhole) i
-judged c i s Wrong = quiet (Ended CheckWrong) i
-judged c i s (Whole f) = framed c i (requestIn f s)
+unfoldable pub judged : Config → Inner → ℕ → List ℕ → Heard → Made
+judged c i lag s Broken = quiet (Ended NotWhole) i
+judged c i lag s Wrong = quiet (Ended CheckWrong) i
+judged c i lag s (Whole f) = framed c i lag (requestIn f s)
 
 -- ---- time and the local events
 
@@ -318,6 +318,6 @@ localOf c i (store f e vs) =
 
 -- what a working unit makes of an event
 unfoldable pub makeOf : Config → Inner → Event → Made
-makeOf c i (stretch s) = judged c i (s .chars) (heardOf (s .chars))
+makeOf c i (stretch s) = judged c i (s .lag) (s .chars) (heardOf (s .chars))
 makeOf c i (elapsed ms) = elapsedMade i ms
 makeOf c i (local l) = localOf c i l

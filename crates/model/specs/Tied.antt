@@ -7,6 +7,7 @@ use Rattle.model.specs.Limits.{
   longestReply,
   holdTime,
   silenceLimit,
+  mostLag,
   fileRoom,
   recordHead,
   longestRecord,
@@ -23,6 +24,7 @@ limitsTold =
       reply = longestReply;
       hold = holdTime;
       silent = silenceLimit;
+      lag = mostLag;
       room = fileRoom;
       stamp = recordHead;
       slot = longestRecord;

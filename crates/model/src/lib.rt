@@ -161,6 +161,11 @@ pub struct Clock {
     pub ms: u16,
 }
 
+impl Clock {
+    // By how many milliseconds at most the time of a Set Time lies behind the stretch.
+    pub const LAG: u32 = 10000;
+}
+
 pub struct Select {
     pub master: Master,
     pub output: ControlOutput,
@@ -301,6 +306,7 @@ pub struct Limits {
     pub reply: usize,
     pub hold: u16,
     pub silent: u16,
+    pub lag: u32,
     pub room: u8,
     pub stamp: usize,
     pub slot: usize,
@@ -317,6 +323,7 @@ pub fn limits_told() -> Limits
         reply: Reply::LONGEST,
         hold: Select::HOLD,
         silent: Port::SILENT,
+        lag: Clock::LAG,
         room: File::ROOM,
         stamp: Record::HEAD,
         slot: Record::LONGEST,

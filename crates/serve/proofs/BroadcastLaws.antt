@@ -31,21 +31,21 @@ use Rattle.serve.specs.declared.step.Step.{Step}
 use Rattle.serve.specs.declared.Made.{Made as MadeOf}
 use Rattle.serve.specs.Promises.{StirPromise, MadePromise}
 
-module _ (c : Config) (k : Core) (a : Areas) (q : Request) where
-  pub broadcast-not : (q .function ≡ 0x20 → ⊥) → broadcastOf c k a q ≡ scanned k a (refuses Unknown)
+module _ (c : Config) (k : Core) (a : Areas) (lag : ℕ) (q : Request) where
+  pub broadcast-not : (q .function ≡ 0x20 → ⊥) → broadcastOf c k a lag q ≡ scanned k a (refuses Unknown)
   unfolding broadcastOf
   broadcast-not n = simp (ne-eqb _ _ n)
 
   module _ (f : q .function ≡ 0x20) where
-    pub broadcast-reset : q .command ≡ 0x11 → broadcastOf c k a q ≡ changed k a (points.resetCountOf (c .inputs) (a .words) q)
+    pub broadcast-reset : q .command ≡ 0x11 → broadcastOf c k a lag q ≡ changed k a (points.resetCountOf (c .inputs) (a .words) q)
     unfolding broadcastOf
     broadcast-reset e = simp (f, e)
 
-    pub broadcast-time : q .command ≡ 0x38 → broadcastOf c k a q ≡ timed k a (setTimeOf (k .clock) q)
+    pub broadcast-time : q .command ≡ 0x38 → broadcastOf c k a lag q ≡ timed k a (setTimeOf lag (k .clock) q)
     unfolding broadcastOf
     broadcast-time e = simp (f, e)
 
-    pub broadcast-other : (q .command ≡ 0x11 → ⊥) → (q .command ≡ 0x38 → ⊥) → broadcastOf c k a q ≡ scanned k a (refuses Unknown)
+    pub broadcast-other : (q .command ≡ 0x11 → ⊥) → (q .command ≡ 0x38 → ⊥) → broadcastOf c k a lag q ≡ scanned k a (refuses Unknown)
     unfolding broadcastOf
     broadcast-other m n = simp (f, ne-eqb _ _ m, ne-eqb _ _ n)
 

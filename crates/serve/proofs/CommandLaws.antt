@@ -59,35 +59,35 @@ use Rattle.serve.proofs.TameLaws.{mute, bare-tame}
 
 -- ---- which step
 
-module _ (c : Config) (i : Inner) (q : Request) where
+module _ (c : Config) (i : Inner) (lag : ℕ) (q : Request) where
   -- function 20h by command
-  pub internal-initial : q .command ≡ 0x00 → internalStep c i q ≡ initialStep i q
+  pub internal-initial : q .command ≡ 0x00 → internalStep c i lag q ≡ initialStep i q
   unfolding internalStep
   internal-initial e = simp e
 
-  pub internal-reset : q .command ≡ 0x11 → internalStep c i q ≡ alone i (changed (i .core) (i .areas) (points.resetCountOf (c .inputs) (i .areas .words) q))
+  pub internal-reset : q .command ≡ 0x11 → internalStep c i lag q ≡ alone i (changed (i .core) (i .areas) (points.resetCountOf (c .inputs) (i .areas .words) q))
   unfolding internalStep internalOf
   internal-reset e = simp e
 
-  pub internal-write : q .command ≡ 0x30 → internalStep c i q ≡ alone i (written (i .core) (i .areas) (blocks.writeOf (i .core .write) q))
+  pub internal-write : q .command ≡ 0x30 → internalStep c i lag q ≡ alone i (written (i .core) (i .areas) (blocks.writeOf (i .core .write) q))
   unfolding internalStep internalOf
   internal-write e = simp e
 
-  pub internal-execute : q .command ≡ 0x31 → internalStep c i q ≡ alone i (executed (i .core) (i .areas) (blocks.executeOf (i .core .write) (i .areas .fixed) (i .areas .block) q))
+  pub internal-execute : q .command ≡ 0x31 → internalStep c i lag q ≡ alone i (executed (i .core) (i .areas) (blocks.executeOf (i .core .write) (i .areas .fixed) (i .areas .block) q))
   unfolding internalStep internalOf
   internal-execute e = simp e
 
-  pub internal-time : q .command ≡ 0x38 → internalStep c i q ≡ alone i (timed (i .core) (i .areas) (setTimeOf (i .core .clock) q))
+  pub internal-time : q .command ≡ 0x38 → internalStep c i lag q ≡ alone i (timed (i .core) (i .areas) (setTimeOf lag (i .core .clock) q))
   unfolding internalStep internalOf
   internal-time e = simp e
 
   pub internal-unknown : (q .command ≡ 0x00 → ⊥) → (q .command ≡ 0x11 → ⊥) → (q .command ≡ 0x30 → ⊥) → (q .command ≡ 0x31 → ⊥) → (q .command ≡ 0x38 → ⊥)
-      → internalStep c i q ≡ alone i (scanned (i .core) (i .areas) (refuses Unknown))
+      → internalStep c i lag q ≡ alone i (scanned (i .core) (i .areas) (refuses Unknown))
   unfolding internalStep internalOf
   internal-unknown f₀ f₁ f₂ f₃ f₄ = simp (ne-eqb _ _ f₀, ne-eqb _ _ f₁, ne-eqb _ _ f₂, ne-eqb _ _ f₃, ne-eqb _ _ f₄)
 
   -- it leaves the files
-  pub internal-stays : internalStep c i q .change ≡ stays
+  pub internal-stays : internalStep c i lag q .change ≡ stays
   unfolding internalStep initialStep alone
   internal-stays = by-bool (eqb (q .command) 0x00) (λ a. by-bool (counts 0 q) (λ b. rw (a, b)) (λ b. rw (a, b))) (λ a. rw a)
 

@@ -89,15 +89,15 @@ step-heard n z e =
       tame = z .tame;
     }
 
-pub makes-served : (c : Config) (i : Inner) (q : Request) (mark : Mark) {areas : Areas} {fs : Files} {p : Port} {ks ls entry mid exit : List ℕ} {r : Step} {x : MadeOf} {n : ℕ}
-    → longestReply ≤ length entry → StepPromise (stepOf c i q) areas p ks entry mid r → fs ≡ applied (stepOf c i q .change) (i .history .files)
+pub makes-served : (c : Config) (i : Inner) (lag : ℕ) (q : Request) (mark : Mark) {areas : Areas} {fs : Files} {p : Port} {ks ls entry mid exit : List ℕ} {r : Step} {x : MadeOf} {n : ℕ}
+    → longestReply ≤ length entry → StepPromise (stepOf c i lag q) areas p ks entry mid r → fs ≡ applied (stepOf c i lag q .change) (i .history .files)
     → Replies mid exit (r .outcome) (headOf (statusOf (i .core)) (q .address) (q .function) (r .outcome) (r .count) (portStatus mark)) n
     → Written (settled q (r .outcome) (coreIn ks)) (memoryIn ks) (portIn ks) ls
     → x ≡ record { outcome = r .outcome; action = r .action; sent = n }
-    → MadePromise (served c i q) mark areas fs p ls entry exit x
+    → MadePromise (served c i lag q) mark areas fs p ls entry exit x
 unfolding served finished changedBy
-makes-served c i q mark {entry = entry} {mid} {exit} {r} {n = n} l a fl f k e =
-    let p : StepOf = stepOf c i q .step in
+makes-served c i lag q mark {entry = entry} {mid} {exit} {r} {n = n} l a fl f k e =
+    let p : StepOf = stepOf c i lag q .step in
     let f′ : Replies mid exit (p .says .outcome) (headOf (statusOf (i .core)) (q .address) (q .function) (p .says .outcome) (length (p .says .chars)) (portStatus mark)) n = rw (a .counted, a .ended) at f in
     let g = sent-as (i .core) q (p .says .outcome) mark entry mid exit (p .says .chars) n (a .written) l (a .tame) f′ in
     rw (e, a .ended)

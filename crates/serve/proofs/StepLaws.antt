@@ -54,42 +54,42 @@ use Rattle.serve.proofs.CommandLaws.{unshifted-numbers, numbers-kept}
 
 -- ---- which step
 
-module _ (c : Config) (i : Inner) (q : Request) where
-  pub step-broken : breaks (i .core .hold) q ≡ true → stepOf c i q ≡ alone i (brokenOff (i .core) (i .areas))
+module _ (c : Config) (i : Inner) (lag : ℕ) (q : Request) where
+  pub step-broken : breaks (i .core .hold) q ≡ true → stepOf c i lag q ≡ alone i (brokenOff (i .core) (i .areas))
   unfolding stepOf
   step-broken b = rw b
 
   module _ (b : breaks (i .core .hold) q ≡ false) where
-    pub step-told : q .function ≡ 0x04 → stepOf c i q ≡ telling i (historyOf (c .files) (c .values) (i .history) q)
+    pub step-told : q .function ≡ 0x04 → stepOf c i lag q ≡ telling i (historyOf (c .files) (c .values) (i .history) q)
     unfolding stepOf
     step-told e = simp (b, e)
 
-    pub step-inputs : q .function ≡ 0x00 → stepOf c i q ≡ alone i (scanned (i .core) (i .areas) (points.inputsOf (c .inputs) (i .areas .words) q))
+    pub step-inputs : q .function ≡ 0x00 → stepOf c i lag q ≡ alone i (scanned (i .core) (i .areas) (points.inputsOf (c .inputs) (i .areas .words) q))
     unfolding stepOf otherOf
     step-inputs e = simp (b, e)
 
-    pub step-calculations : q .function ≡ 0x03 → stepOf c i q ≡ alone i (scanned (i .core) (i .areas) (calculationsOf (c .calculations) (i .areas .values) q))
+    pub step-calculations : q .function ≡ 0x03 → stepOf c i lag q ≡ alone i (scanned (i .core) (i .areas) (calculationsOf (c .calculations) (i .areas .values) q))
     unfolding stepOf otherOf
     step-calculations e = simp (b, e)
 
-    pub step-tables : q .function ≡ 0x0A → stepOf c i q ≡ alone i (scanned (i .core) (i .areas) (tablesOf (c .inputs) (i .areas .fixed) (i .areas .words) q))
+    pub step-tables : q .function ≡ 0x0A → stepOf c i lag q ≡ alone i (scanned (i .core) (i .areas) (tablesOf (c .inputs) (i .areas .fixed) (i .areas .words) q))
     unfolding stepOf otherOf
     step-tables e = simp (b, e)
 
-    pub step-control : q .function ≡ 0x10 → stepOf c i q ≡ alone i (controlled (i .core) (i .areas) (controlOf (c .outputs) (i .core .hold) q))
+    pub step-control : q .function ≡ 0x10 → stepOf c i lag q ≡ alone i (controlled (i .core) (i .areas) (controlOf (c .outputs) (i .core .hold) q))
     unfolding stepOf otherOf
     step-control e = simp (b, e)
 
-    pub step-internal : q .function ≡ 0x20 → stepOf c i q ≡ internalStep c i q
+    pub step-internal : q .function ≡ 0x20 → stepOf c i lag q ≡ internalStep c i lag q
     unfolding stepOf
     step-internal e = simp (b, e)
 
-    pub step-return : q .function ≡ 0x28 → stepOf c i q ≡ alone i (returnOf (i .core) (i .areas) q)
+    pub step-return : q .function ≡ 0x28 → stepOf c i lag q ≡ alone i (returnOf (i .core) (i .areas) q)
     unfolding stepOf otherOf
     step-return e = simp (b, e)
 
     pub step-unknown : (q .function ≡ 0x00 → ⊥) → (q .function ≡ 0x03 → ⊥) → (q .function ≡ 0x04 → ⊥) → (q .function ≡ 0x0A → ⊥) → (q .function ≡ 0x10 → ⊥)
-        → (q .function ≡ 0x20 → ⊥) → (q .function ≡ 0x28 → ⊥) → stepOf c i q ≡ alone i (scanned (i .core) (i .areas) (refuses Unknown))
+        → (q .function ≡ 0x20 → ⊥) → (q .function ≡ 0x28 → ⊥) → stepOf c i lag q ≡ alone i (scanned (i .core) (i .areas) (refuses Unknown))
     unfolding stepOf otherOf
     step-unknown f₀ f₁ f₂ f₃ f₄ f₅ f₆ =
         simp (b, ne-eqb _ _ f₀, ne-eqb _ _ f₁, ne-eqb _ _ f₂, ne-eqb _ _ f₃, ne-eqb _ _ f₄, ne-eqb _ _ f₅, ne-eqb _ _ f₆)

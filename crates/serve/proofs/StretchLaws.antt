@@ -50,31 +50,31 @@ use Rattle.serve.specs.Stretch.{coming, Turns, StretchPromise}
 frame-data : (s : List ℕ) (f : Frame) {body : List ℕ} → heardOf s ≡ Whole f → body ≡ part s 6 (length s - 8) → body ≡ part s 6 (f .count)
 frame-data s f h b = let n : length s - 8 ≡ f .count = omega (arith, heard-whole s f h .count) in b ∙ ap (part s 6) n
 
-module _ (c : Config) (i : Inner) (s : List ℕ) (mark : Mark) (p : Port) {area held entry : List ℕ} {x : MadeOf} where
+module _ (c : Config) (i : Inner) (lag : ℕ) (s : List ℕ) (mark : Mark) (p : Port) {area held entry : List ℕ} {x : MadeOf} where
   module _ {ks : List ℕ} (k : Written (i .core) (i .history .memory) p ks) where
     pub judged-broken : heardOf s ≡ Broken → x ≡ record { outcome = NotWhole; action = Rest; sent = 0 }
-        → MadeInPromise c (judged c i s (heardOf s)) mark (i .areas) (i .history .files) p ks area held area held entry entry x
+        → MadeInPromise c (judged c i lag s (heardOf s)) mark (i .areas) (i .history .files) p ks area held area held entry entry x
     unfolding judged quiet
     judged-broken h e = rw h (record { makes = makes-quiet i mark entry NotWhole e k; changed = still c area held })
 
     pub judged-wrong : heardOf s ≡ Wrong → x ≡ record { outcome = CheckWrong; action = Rest; sent = 0 }
-        → MadeInPromise c (judged c i s (heardOf s)) mark (i .areas) (i .history .files) p ks area held area held entry entry x
+        → MadeInPromise c (judged c i lag s (heardOf s)) mark (i .areas) (i .history .files) p ks area held area held entry entry x
     unfolding judged quiet
     judged-wrong h e = rw h (record { makes = makes-quiet i mark entry CheckWrong e k; changed = still c area held })
 
   module _ (f : Frame) {body : List ℕ} {to : ℕ} (h : heardOf s ≡ Whole f) (b : body ≡ part s 6 (length s - 8)) (u : to ≡ unitOf (f .address)) where
     -- for this unit
     pub judged-own : {a : Areas} {fs : Files} {ls area′ held′ exit : List ℕ} → to ≡ c .unit
-        → MadeInPromise c (served c i (asked f body)) mark a fs (portHeardBy p (shortestFrame + f .count) (x .outcome)) ls area held area′ held′ entry exit x
-        → MadeInPromise c (judged c i s (heardOf s)) mark a fs (portHeard p s (x .outcome)) ls area held area′ held′ entry exit x
+        → MadeInPromise c (served c i lag (asked f body)) mark a fs (portHeardBy p (shortestFrame + f .count) (x .outcome)) ls area held area′ held′ entry exit x
+        → MadeInPromise c (judged c i lag s (heardOf s)) mark a fs (portHeard p s (x .outcome)) ls area held area′ held′ entry exit x
     unfolding judged framed requestIn
     judged-own t w =
         rw (h, eq-eqb (unitOf (f .address)) (c .unit) (sym u ∙ t), ← frame-data s f h b, ← (heard-as p s (x .outcome)), heard-whole s f h .count) w
 
     -- for all
     pub judged-all : {a : Areas} {fs : Files} {ls : List ℕ} → (to ≡ c .unit → ⊥) → to ≡ 0x7FF
-        → MadePromise (broadcastMade i (broadcastOf c (i .core) (i .areas) (asked f body))) mark a fs p ls entry entry x
-        → MadeInPromise c (judged c i s (heardOf s)) mark a fs p ls area held area held entry entry x
+        → MadePromise (broadcastMade i (broadcastOf c (i .core) (i .areas) lag (asked f body))) mark a fs p ls entry entry x
+        → MadeInPromise c (judged c i lag s (heardOf s)) mark a fs p ls area held area held entry entry x
     unfolding judged framed requestIn broadcastMade quiet
     judged-all n t w =
         rw (h, ne-eqb (unitOf (f .address)) (c .unit) (λ e. n (u ∙ e)), eq-eqb (unitOf (f .address)) broadcastUnit (sym u ∙ t), ← frame-data s f h b)
@@ -83,7 +83,7 @@ module _ (c : Config) (i : Inner) (s : List ℕ) (mark : Mark) (p : Port) {area 
     -- for another
     pub judged-other : {ks : List ℕ} → Written (i .core) (i .history .memory) p ks → (to ≡ c .unit → ⊥) → (to ≡ 0x7FF → ⊥)
         → x ≡ record { outcome = OtherUnit; action = Rest; sent = 0 }
-        → MadeInPromise c (judged c i s (heardOf s)) mark (i .areas) (i .history .files) p ks area held area held entry entry x
+        → MadeInPromise c (judged c i lag s (heardOf s)) mark (i .areas) (i .history .files) p ks area held area held entry entry x
     unfolding judged framed requestIn quiet
     judged-other k n m e =
         rw (h, ne-eqb (unitOf (f .address)) (c .unit) (λ e. n (u ∙ e)), ne-eqb (unitOf (f .address)) broadcastUnit (λ e. m (u ∙ e)))
@@ -91,10 +91,10 @@ module _ (c : Config) (i : Inner) (s : List ℕ) (mark : Mark) (p : Port) {area 
 
 -- ---- the entry
 
-module _ (c : Config) (s : List ℕ) (k : Kept) (entry : List ℕ) {r : MadeOf} where
+module _ (c : Config) (lag : ℕ) (s : List ℕ) (k : Kept) (entry : List ℕ) {r : MadeOf} where
   -- turned away by o, and nothing is changed
-  turned : (o : Outcome) → (resultOf c (stateOf c k) (coming entry s) ≡ turnedAway o) × (nextOf c (stateOf c k) (coming entry s) ≡ stateOf c k)
-      → changeOf c (stateOf c k) (coming entry s) ≡ stays → r ≡ record { outcome = o; action = Rest; sent = 0 } → Turns c s k k entry entry r
+  turned : (o : Outcome) → (resultOf c (stateOf c k) (coming entry lag s) ≡ turnedAway o) × (nextOf c (stateOf c k) (coming entry lag s) ≡ stateOf c k)
+      → changeOf c (stateOf c k) (coming entry lag s) ≡ stays → r ≡ record { outcome = o; action = Rest; sent = 0 } → Turns c lag s k k entry entry r
   unfolding turnedAway
   turned o w z e =
       rw e
@@ -110,36 +110,36 @@ module _ (c : Config) (s : List ℕ) (k : Kept) (entry : List ℕ) {r : MadeOf} 
       })
 
   pub turns-short : length entry < longestReply
-      → r ≡ record { outcome = BufferShort; action = Rest; sent = 0 } → Turns c s k k entry entry r
+      → r ≡ record { outcome = BufferShort; action = Rest; sent = 0 } → Turns c lag s k k entry entry r
   unfolding short changeOf decided
   turns-short l e =
-      let t : short (coming entry s) ≡ true = lt-ltb (length entry) longestReply l in
-      turned BufferShort (short-away c (stateOf c k) (coming entry s) t) (rw t) e
+      let t : short (coming entry lag s) ≡ true = lt-ltb (length entry) longestReply l in
+      turned BufferShort (short-away c (stateOf c k) (coming entry lag s) t) (rw t) e
 
   pub turns-unfit : longestReply ≤ length entry → fits c (stateOf c k) ≡ false
-      → r ≡ record { outcome = NotConfigured; action = Rest; sent = 0 } → Turns c s k k entry entry r
+      → r ≡ record { outcome = NotConfigured; action = Rest; sent = 0 } → Turns c lag s k k entry entry r
   unfolding short changeOf decided
   turns-unfit l b e =
-      let t : short (coming entry s) ≡ false = le-ltb (length entry) longestReply l in
-      turned NotConfigured (unfit-away c (stateOf c k) (coming entry s) t b) (rw (t, b)) e
+      let t : short (coming entry lag s) ≡ false = le-ltb (length entry) longestReply l in
+      turned NotConfigured (unfit-away c (stateOf c k) (coming entry lag s) t b) (rw (t, b)) e
 
 -- ---- what is owned
 
-module _ (s : List ℕ) (x : Owned) (entry : List ℕ) {r : MadeOf} where
+module _ (lag : ℕ) (s : List ℕ) (x : Owned) (entry : List ℕ) {r : MadeOf} where
   -- 18 whatever is lent
-  pub stretch-short : length entry < longestReply → r ≡ record { outcome = BufferShort; action = Rest; sent = 0 } → StretchPromise s x x entry entry r
+  pub stretch-short : length entry < longestReply → r ≡ record { outcome = BufferShort; action = Rest; sent = 0 } → StretchPromise lag s x x entry entry r
   stretch-short l e =
       record {
-        read = λ t. record { turns = turns-short (configIn (x .unit)) s (keptIn x) entry l e; stand = t; steady = steady-same (x .unit) };
+        read = λ t. record { turns = turns-short (configIn (x .unit)) lag s (keptIn x) entry l e; stand = t; steady = steady-same (x .unit) };
         unread = λ _. record { shown = rw (lt-ltb (length entry) longestReply l) e; written = refl; owned = refl };
       }
 
   -- 17 where it is not such as a unit that fits writes
   pub stretch-unfit : longestReply ≤ length entry → (standing x ≡ true → fits (configIn (x .unit)) (stateOf (configIn (x .unit)) (keptIn x)) ≡ false)
-      → r ≡ record { outcome = NotConfigured; action = Rest; sent = 0 } → StretchPromise s x x entry entry r
+      → r ≡ record { outcome = NotConfigured; action = Rest; sent = 0 } → StretchPromise lag s x x entry entry r
   stretch-unfit l b e =
       record {
-        read = λ t. record { turns = turns-unfit (configIn (x .unit)) s (keptIn x) entry l (b t) e; stand = t; steady = steady-same (x .unit) };
+        read = λ t. record { turns = turns-unfit (configIn (x .unit)) lag s (keptIn x) entry l (b t) e; stand = t; steady = steady-same (x .unit) };
         unread = λ _. record { shown = rw (le-ltb (length entry) longestReply l) e; written = refl; owned = refl };
       }
 
@@ -176,20 +176,20 @@ unit-marked s c v w block h n =
     let only = numbers-only v w (n .1) in
     rw (unshifted-numbers v w only .counts, numbers-kept v block w only) (makes-marked s h (n .0, numbers-left v w (n .1)))
 
-pub stretch-made : (s : List ℕ) (x : Owned) (entry : List ℕ) (y : Owned) {exit : List ℕ} (m : MadeOf) → standing x ≡ true → longestReply ≤ length entry
+pub stretch-made : (lag : ℕ) (s : List ℕ) (x : Owned) (entry : List ℕ) (y : Owned) {exit : List ℕ} (m : MadeOf) → standing x ≡ true → longestReply ≤ length entry
     → fits (configIn (x .unit)) (stateOf (configIn (x .unit)) (keptIn x)) ≡ true
-    → MadeInPromise (configIn (x .unit)) (judged (configIn (x .unit)) (stateOf (configIn (x .unit)) (keptIn x) .inner) s (heardOf s))
+    → MadeInPromise (configIn (x .unit)) (judged (configIn (x .unit)) (stateOf (configIn (x .unit)) (keptIn x) .inner) lag s (heardOf s))
     (portIn (numbersIn (x .unit)) .mark) (areasIn (y .unit) (y .block)) (filesIn (configIn (x .unit)) (y .area) (unitIn (y .unit) .counts)) (portHeard (portIn (numbersIn (x .unit))) s (m .outcome)) (numbersIn (y .unit))
     (x .area) (unitIn (x .unit) .counts) (y .area) (unitIn (y .unit) .counts) entry exit m → Steady (x .unit) (y .unit)
-    → StretchPromise s x y entry exit m
+    → StretchPromise lag s x y entry exit m
 unfolding short makeOf shows moves portAfter changeOf decided
-stretch-made s x entry y {exit} m g l b v steady =
+stretch-made lag s x entry y {exit} m g l b v steady =
     let c = configIn (x .unit) in
-    let t : short (coming entry s) ≡ false = le-ltb (length entry) longestReply l in
-    let w = works c (stateOf c (keptIn x)) (coming entry s) t b in
+    let t : short (coming entry lag s) ≡ false = le-ltb (length entry) longestReply l in
+    let w = works c (stateOf c (keptIn x)) (coming entry lag s) t b in
     let z = v .makes in
     let k = z .kept in
-    let port = ap (portAfter (portIn (numbersIn (x .unit))) (coming entry s)) (z .answered) in
+    let port = ap (portAfter (portIn (numbersIn (x .unit))) (coming entry lag s)) (z .answered) in
     let long : length (y .area) ≡ length (x .area) = ap length (v .changed .moved) ∙ length-area _ _ _ _ in
     record {
       read = λ _. record {
@@ -215,11 +215,11 @@ stretch-made s x entry y {exit} m g l b v steady =
     }
 
 -- what is to be sent lies in the buffer
-pub sent-inside : (s : List ℕ) (x y : Owned) {entry exit : List ℕ} {r : MadeOf} → StretchPromise s x y entry exit r → r .sent ≤ length entry
-sent-inside s x y h = by-bool (standing x) (λ e. h .read e .turns .inside) (λ e. rw (h .unread e .shown) (omega arith))
+pub sent-inside : (lag : ℕ) (s : List ℕ) (x y : Owned) {entry exit : List ℕ} {r : MadeOf} → StretchPromise lag s x y entry exit r → r .sent ≤ length entry
+sent-inside lag s x y h = by-bool (standing x) (λ e. h .read e .turns .inside) (λ e. rw (h .unread e .shown) (omega arith))
 
 -- and what `reply` then hands back is the definition's reply (Frames 17)
-pub handed-back : (c : Config) (s : List ℕ) (k l : Kept) {entry exit : List ℕ} {r : MadeOf} → Turns c s k l entry exit r
-    → part exit 0 (r .sent) ≡ resultOf c (stateOf c k) (coming entry s) .reply
+pub handed-back : (c : Config) (lag : ℕ) (s : List ℕ) (k l : Kept) {entry exit : List ℕ} {r : MadeOf} → Turns c lag s k l entry exit r
+    → part exit 0 (r .sent) ≡ resultOf c (stateOf c k) (coming entry lag s) .reply
 unfolding part
-handed-back c s k l {entry} t = rw (t .counted, t .written) (take-put-front entry (resultOf c (stateOf c k) (coming entry s) .reply) (omega (arith, t .inside, t .counted)))
+handed-back c lag s k l {entry} t = rw (t .counted, t .written) (take-put-front entry (resultOf c (stateOf c k) (coming entry lag s) .reply) (omega (arith, t .inside, t .counted)))

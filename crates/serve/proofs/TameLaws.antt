@@ -9,13 +9,13 @@ use lib.Dec.{eqb, leb, ltb}
 use borrow.Author.Tests.{eqb-true, ltb-true}
 use Rattle.chars.specs.Word.{wordAt}
 use Rattle.chars.proofs.PutLaws.{part-most}
-use Rattle.model.specs.Limits.{mostData, mostAsked}
+use Rattle.model.specs.Limits.{mostData, mostAsked, mostLag}
 use Rattle.model.specs.Frame.{Request, masterOf}
 use Rattle.model.specs.Outcome.{sendingOf}
 use Rattle.model.specs.Scan.{Scan, counts, withNoData}
 use Rattle.model.specs.Inputs.{Changed, hasAccumulator, resetCountOf, unreserved, inputsOf}
 use Rattle.model.specs.Blocks.{WriteResult, Executed, reaches, blockOf, waitsFor, writeWhen, writeOf, notExecuted, executes, executeWhen, executeOf, returned, readOf}
-use Rattle.model.specs.Clock.{Timed, clockFits, timeIn, digitsFit, setTimeOf, timeChars, readTimeOf}
+use Rattle.model.specs.Clock.{Timed, timeFits, setTimeOf, timeChars, readTimeOf}
 use Rattle.model.specs.Step.{answered}
 use Rattle.model.specs.declared.Clock.{Clock}
 use Rattle.model.specs.declared.Outcome.{Outcome}
@@ -125,10 +125,10 @@ execute-bare p fixed block q = by-cond BareExecute (within 1 mostAsked (length (
 BareTime : Timed → Type 0
 BareTime x = x .says .chars ≡ []
 
-pub set-time-bare : (k : Clock) (q : Request) → setTimeOf k q .says .chars ≡ []
+pub set-time-bare : (lag : ℕ) (k : Clock) (q : Request) → setTimeOf lag k q .says .chars ≡ []
 unfolding BareTime setTimeOf
-set-time-bare k q =
-    by-cond BareTime (counts 7 q) (λ e. by-cond BareTime (digitsFit (q .body) && clockFits (timeIn (q .body))) (λ e. refl) (λ e. refl)) (λ e. refl)
+set-time-bare lag k q =
+    by-cond BareTime (counts 7 q) (λ e. by-cond BareTime (timeFits (q .body) && leb lag mostLag) (λ e. refl) (λ e. refl)) (λ e. refl)
 
 -- ---- functions 00, 03 and 0Ah
 

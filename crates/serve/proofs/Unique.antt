@@ -48,9 +48,9 @@ owned-same y z l m p q a b t c e =
 pub ended-same : (o p : Outcome) → Ended o ≡ Ended p → o ≡ p
 ended-same o p e = cc
 
-module _ (s : List ℕ) (x y z : Owned) (entry : List ℕ) {exit exit′ : List ℕ} {r t : Made}
+module _ (lag : ℕ) (s : List ℕ) (x y z : Owned) (entry : List ℕ) {exit exit′ : List ℕ} {r t : Made}
     (long : length (x .unit) ≡ unitLong) (p : Characters (y .unit)) (q : Characters (z .unit)) where
-  one-served : Served s x y entry exit r → Served s x z entry exit′ t → (r ≡ t) × (exit ≡ exit′) × (y ≡ z)
+  one-served : Served lag s x y entry exit r → Served lag s x z entry exit′ t → (r ≡ t) × (exit ≡ exit′) × (y ≡ z)
   one-served a b =
       let f = a .turns in
       let g = b .turns in
@@ -62,7 +62,7 @@ module _ (s : List ℕ) (x y z : Owned) (entry : List ℕ) {exit exit′ : List 
       )
 
   -- stretch: the result, the buffer, and all that is kept and lent, as a memory that was lent is characters
-  pub one-turn : StretchPromise s x y entry exit r → StretchPromise s x z entry exit′ t → (r ≡ t) × (exit ≡ exit′) × (y ≡ z)
+  pub one-turn : StretchPromise lag s x y entry exit r → StretchPromise lag s x z entry exit′ t → (r ≡ t) × (exit ≡ exit′) × (y ≡ z)
   one-turn a b =
       by-bool (standing x) (λ e. one-served (a .read e) (b .read e))
       (λ e. let u = a .unread e in let v = b .unread e in
@@ -76,16 +76,16 @@ one-reply κ a x y s t p q = p .0 ∙ sym (q .0)
 -- ---- the contract of `stretch`, for a memory that is characters, as long as a unit
 
 pub one-stretch : OneWhere (λ κ a s. (length (a .0 .now) ≡ unitLong) × Characters (s .0 .now)) stretch.Post (λ κ r s. r)
-one-stretch κ a x y s t g h p q = one-turn _ _ _ _ _ (g .0) (g .1) (h .1) p q .0
+one-stretch κ a x y s t g h p q = one-turn _ _ _ _ _ _ (g .0) (g .1) (h .1) p q .0
 
 pub one-stretch-unit : OneWhere (λ κ a s. (length (a .0 .now) ≡ unitLong) × Characters (s .0 .now)) stretch.Post (λ κ r s. s .0 .now)
-one-stretch-unit κ a x y s t g h p q = ap (λ (z : Owned). z .unit) (one-turn _ _ _ _ _ (g .0) (g .1) (h .1) p q .2)
+one-stretch-unit κ a x y s t g h p q = ap (λ (z : Owned). z .unit) (one-turn _ _ _ _ _ _ (g .0) (g .1) (h .1) p q .2)
 
 pub one-stretch-block : OneWhere (λ κ a s. (length (a .0 .now) ≡ unitLong) × Characters (s .0 .now)) stretch.Post (λ κ r s. s .1 .0 .now)
-one-stretch-block κ a x y s t g h p q = ap (λ (z : Owned). z .block) (one-turn _ _ _ _ _ (g .0) (g .1) (h .1) p q .2)
+one-stretch-block κ a x y s t g h p q = ap (λ (z : Owned). z .block) (one-turn _ _ _ _ _ _ (g .0) (g .1) (h .1) p q .2)
 
 pub one-stretch-records : OneWhere (λ κ a s. (length (a .0 .now) ≡ unitLong) × Characters (s .0 .now)) stretch.Post (λ κ r s. s .1 .1 .0 .now)
-one-stretch-records κ a x y s t g h p q = ap (λ (z : Owned). z .area) (one-turn _ _ _ _ _ (g .0) (g .1) (h .1) p q .2)
+one-stretch-records κ a x y s t g h p q = ap (λ (z : Owned). z .area) (one-turn _ _ _ _ _ _ (g .0) (g .1) (h .1) p q .2)
 
 pub one-stretch-buffer : OneWhere (λ κ a s. (length (a .0 .now) ≡ unitLong) × Characters (s .0 .now)) stretch.Post (λ κ r s. s .1 .1 .1 .0 .now)
-one-stretch-buffer κ a x y s t g h p q = one-turn _ _ _ _ _ (g .0) (g .1) (h .1) p q .1
+one-stretch-buffer κ a x y s t g h p q = one-turn _ _ _ _ _ _ (g .0) (g .1) (h .1) p q .1

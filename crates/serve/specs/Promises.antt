@@ -76,10 +76,10 @@ pub record StepInPromise (c : Config) (m : Stepped) (a : Areas) (fs fs′ : File
   pub changed : Shifted c (m .change) area counts area′ counts′
 
 -- function 20h, whatever records there are
-abbrev pub InternalPromise : Request → List ℕ → List ℕ → List ℕ → List ℕ → List ℕ → List ℕ → Step → Type 0
-InternalPromise q u block v block′ entry exit r =
+abbrev pub InternalPromise : ℕ → Request → List ℕ → List ℕ → List ℕ → List ℕ → List ℕ → List ℕ → Step → Type 0
+InternalPromise lag q u block v block′ entry exit r =
     ((fs : Files) → readable (numbersIn u) ≡ true
-    → StepPromise (internalStep (configIn u) (innerBy u block fs) q) (areasIn v block′) (portIn (numbersIn u)) (numbersIn v) entry exit r)
+    → StepPromise (internalStep (configIn u) (innerBy u block fs) lag q) (areasIn v block′) (portIn (numbersIn u)) (numbersIn v) entry exit r)
     × Unshifted u v
 
 -- function 28h, which changes only the buffer
@@ -89,10 +89,10 @@ ReturnedPromise q u block entry exit r =
     → StepPromise (alone (innerBy u block fs) (returnOf (coreIn (numbersIn u)) (areasIn u block) q)) (areasIn u block) (portIn (numbersIn u)) (numbersIn u) entry exit r
 
 -- any function, of what is owned before and after
-abbrev pub ActPromise : Request → Owned → Owned → List ℕ → List ℕ → Step → Type 0
-ActPromise q x y entry exit r =
+abbrev pub ActPromise : ℕ → Request → Owned → Owned → List ℕ → List ℕ → Step → Type 0
+ActPromise lag q x y entry exit r =
     (Ready (x .unit) (x .area) → readable (numbersIn (x .unit)) ≡ true
-    → StepInPromise (configIn (x .unit)) (stepOf (configIn (x .unit)) (innerIn (x .unit) (x .block) (x .area)) q)
+    → StepInPromise (configIn (x .unit)) (stepOf (configIn (x .unit)) (innerIn (x .unit) (x .block) (x .area)) lag q)
     (areasIn (y .unit) (y .block)) (filesHeld (x .unit) (x .area)) (filesIn (configIn (x .unit)) (y .area) (unitIn (y .unit) .counts))
     (portIn (numbersIn (x .unit))) (numbersIn (y .unit)) (x .area) (unitIn (x .unit) .counts) (y .area) (unitIn (y .unit) .counts) entry exit r)
     × Steady (x .unit) (y .unit)
@@ -125,15 +125,15 @@ OwnedPromise m p x y entry exit r =
     × Steady (x .unit) (y .unit)
 
 -- a frame for this unit, in a stretch of n characters
-abbrev pub ServedPromise : Request → ℕ → Owned → Owned → List ℕ → List ℕ → MadeOf → Type 0
-ServedPromise q n x y entry exit r =
-    OwnedPromise (served (configIn (x .unit)) (innerIn (x .unit) (x .block) (x .area)) q)
+abbrev pub ServedPromise : ℕ → Request → ℕ → Owned → Owned → List ℕ → List ℕ → MadeOf → Type 0
+ServedPromise lag q n x y entry exit r =
+    OwnedPromise (served (configIn (x .unit)) (innerIn (x .unit) (x .block) (x .area)) lag q)
     (portHeardBy (portIn (numbersIn (x .unit))) n (r .outcome)) x y entry exit r
 
 -- any stretch that a working unit hears
-abbrev pub JudgedPromise : List ℕ → Owned → Owned → List ℕ → List ℕ → MadeOf → Type 0
-JudgedPromise s x y entry exit r =
-    OwnedPromise (judged (configIn (x .unit)) (innerIn (x .unit) (x .block) (x .area)) s (heardOf s))
+abbrev pub JudgedPromise : ℕ → List ℕ → Owned → Owned → List ℕ → List ℕ → MadeOf → Type 0
+JudgedPromise lag s x y entry exit r =
+    OwnedPromise (judged (configIn (x .unit)) (innerIn (x .unit) (x .block) (x .area)) lag s (heardOf s))
     (portHeard (portIn (numbersIn (x .unit))) s (r .outcome)) x y entry exit r
 
 -- ---- a broadcast
@@ -145,16 +145,16 @@ pub record StirPromise (x : StepOf) (a : Areas) (w : Memory) (p : Port) (ls : Li
   pub areas : a ≡ x .areas
 
 -- its function, whatever parameter block there is
-abbrev pub BroadcastStepPromise : Request → List ℕ → List ℕ → Step → Type 0
-BroadcastStepPromise q u v r =
+abbrev pub BroadcastStepPromise : ℕ → Request → List ℕ → List ℕ → Step → Type 0
+BroadcastStepPromise lag q u v r =
     ((block : List ℕ) → readable (numbersIn u) ≡ true
-    → StirPromise (broadcastOf (configIn u) (coreIn (numbersIn u)) (areasIn u block) q) (areasIn v block) (memoryIn (numbersIn u)) (portIn (numbersIn u)) (numbersIn v) (r .outcome))
+    → StirPromise (broadcastOf (configIn u) (coreIn (numbersIn u)) (areasIn u block) lag q) (areasIn v block) (memoryIn (numbersIn u)) (portIn (numbersIn u)) (numbersIn v) (r .outcome))
     × Unshifted u v
 
 -- all of it, whatever else there is
-abbrev pub BroadcastPromise : Request → List ℕ → List ℕ → MadeOf → Type 0
-BroadcastPromise q u v r =
+abbrev pub BroadcastPromise : ℕ → Request → List ℕ → List ℕ → MadeOf → Type 0
+BroadcastPromise lag q u v r =
     ((block : List ℕ) (fs : Files) (mark : Mark) (entry : List ℕ) → readable (numbersIn u) ≡ true
-    → MadePromise (broadcastMade (innerBy u block fs) (broadcastOf (configIn u) (coreIn (numbersIn u)) (areasIn u block) q)) mark
+    → MadePromise (broadcastMade (innerBy u block fs) (broadcastOf (configIn u) (coreIn (numbersIn u)) (areasIn u block) lag q)) mark
     (areasIn v block) fs (portIn (numbersIn u)) (numbersIn v) entry entry r)
     × Unshifted u v

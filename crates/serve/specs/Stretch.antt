@@ -18,25 +18,25 @@ use Rattle.serve.specs.declared.Made.{Made}
 use Rattle.layout.specs.Kept.{Kept, stateOf, Owned, keptIn, standing, Steady}
 use Rattle.serve.specs.Changes.{Shifted}
 
--- a stretch s as it comes with a lent buffer
-abbrev pub coming : List ℕ → List ℕ → Event
-coming entry s = stretch (record { room = length entry; chars = s })
+-- a stretch s as it comes with a lent buffer and a lag
+abbrev pub coming : List ℕ → ℕ → List ℕ → Event
+coming entry lag s = stretch (record { room = length entry; chars = s; lag = lag })
 
 -- a stretch that found the unit as k left it as l: what it showed is the definition's result, the buffer holds the reply and is
 -- else as it was, all that is kept is the next state, and every lent character and count of the files is as the change says
-pub record Turns (c : Config) (s : List ℕ) (k l : Kept) (entry exit : List ℕ) (r : Made) : Type 0 where
-  pub answered : Ended (r .outcome) ≡ resultOf c (stateOf c k) (coming entry s) .answer
-  pub acted : r .action ≡ resultOf c (stateOf c k) (coming entry s) .action
-  pub counted : r .sent ≡ length (resultOf c (stateOf c k) (coming entry s) .reply)
+pub record Turns (c : Config) (lag : ℕ) (s : List ℕ) (k l : Kept) (entry exit : List ℕ) (r : Made) : Type 0 where
+  pub answered : Ended (r .outcome) ≡ resultOf c (stateOf c k) (coming entry lag s) .answer
+  pub acted : r .action ≡ resultOf c (stateOf c k) (coming entry lag s) .action
+  pub counted : r .sent ≡ length (resultOf c (stateOf c k) (coming entry lag s) .reply)
   pub inside : r .sent ≤ length entry
   pub small : r .sent ≤ longestReply
-  pub written : exit ≡ put entry 0 (resultOf c (stateOf c k) (coming entry s) .reply)
-  pub next : stateOf c l ≡ nextOf c (stateOf c k) (coming entry s)
-  pub changed : Shifted c (changeOf c (stateOf c k) (coming entry s)) (k .area) (k .counts) (l .area) (l .counts)
+  pub written : exit ≡ put entry 0 (resultOf c (stateOf c k) (coming entry lag s) .reply)
+  pub next : stateOf c l ≡ nextOf c (stateOf c k) (coming entry lag s)
+  pub changed : Shifted c (changeOf c (stateOf c k) (coming entry lag s)) (k .area) (k .counts) (l .area) (l .counts)
 
 -- the same of what a caller owns, which is such as a unit writes afterwards and keeps its configuration
-pub record Served (s : List ℕ) (x y : Owned) (entry exit : List ℕ) (r : Made) : Type 0 where
-  pub turns : Turns (configIn (x .unit)) s (keptIn x) (keptIn y) entry exit r
+pub record Served (lag : ℕ) (s : List ℕ) (x y : Owned) (entry exit : List ℕ) (r : Made) : Type 0 where
+  pub turns : Turns (configIn (x .unit)) lag s (keptIn x) (keptIn y) entry exit r
   pub stand : standing y ≡ true
   pub steady : Steady (x .unit) (y .unit)
 
@@ -47,6 +47,6 @@ pub record Away (x y : Owned) (entry exit : List ℕ) (r : Made) : Type 0 where
   pub owned : y ≡ x
 
 -- a call found x and left y: served where x is such as a unit writes, else turned away
-pub record StretchPromise (s : List ℕ) (x y : Owned) (entry exit : List ℕ) (r : Made) : Type 0 where
-  pub read : standing x ≡ true → Served s x y entry exit r
+pub record StretchPromise (lag : ℕ) (s : List ℕ) (x y : Owned) (entry exit : List ℕ) (r : Made) : Type 0 where
+  pub read : standing x ≡ true → Served lag s x y entry exit r
   pub unread : standing x ≡ false → Away x y entry exit r

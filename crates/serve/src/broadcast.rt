@@ -15,8 +15,8 @@ ghost use Rattle.model.specs.Frame.{asked};
 ghost use Rattle.serve.specs.Promises.{BroadcastStepPromise, BroadcastPromise};
 
 // Two commands of function 20h only; what they would echo goes nowhere.
-fn broadcast_step<'a>(unit: &mut [u8; UNIT], frame: Frame, body: &'a [u8]) -> Step
-    ensures { λ r. ⌜ BroadcastStepPromise (asked frame (now (body .entry))) (now (unit .entry)) (now (unit .exit)) r ⌝ }
+fn broadcast_step<'a>(unit: &mut [u8; UNIT], frame: Frame, body: &'a [u8], lag: u32) -> Step
+    ensures { λ r. ⌜ BroadcastStepPromise lag (asked frame (now (body .entry))) (now (unit .entry)) (now (unit .exit)) r ⌝ }
 {
     chars::told_long(unit);
     if frame.function == 0x20 {
@@ -28,7 +28,7 @@ fn broadcast_step<'a>(unit: &mut [u8; UNIT], frame: Frame, body: &'a [u8]) -> St
             }
             0x38 => {
                 let clock = clock_in(unit);
-                timed(unit, clock::set_time(clock, frame, body))
+                timed(unit, clock::set_time(clock, frame, body, lag))
             }
             _ => plain_step(Outcome::Unknown),
         };
@@ -37,10 +37,10 @@ fn broadcast_step<'a>(unit: &mut [u8; UNIT], frame: Frame, body: &'a [u8]) -> St
 }
 
 // It is never answered, and sets bit 2.
-pub fn broadcast<'a>(unit: &mut [u8; UNIT], frame: Frame, body: &'a [u8]) -> Made
-    ensures { λ r. ⌜ BroadcastPromise (asked frame (now (body .entry))) (now (unit .entry)) (now (unit .exit)) r ⌝ }
+pub fn broadcast<'a>(unit: &mut [u8; UNIT], frame: Frame, body: &'a [u8], lag: u32) -> Made
+    ensures { λ r. ⌜ BroadcastPromise lag (asked frame (now (body .entry))) (now (unit .entry)) (now (unit .exit)) r ⌝ }
 {
-    let step = broadcast_step(unit, frame, body);
+    let step = broadcast_step(unit, frame, body, lag);
     let outcome = step.outcome;
     keep_broadcast(unit, true);
     if number(outcome) == 0 {

@@ -117,8 +117,9 @@ pub fn internal<'a>(
     buffer: &mut [u8],
     frame: Frame,
     body: &'a [u8],
+    lag: u32,
 ) -> Step
-    ensures { λ r. ⌜ InternalPromise (asked frame (now (body .entry)))
+    ensures { λ r. ⌜ InternalPromise lag (asked frame (now (body .entry)))
         (now (unit .entry)) (now (block .entry)) (now (unit .exit)) (now (block .exit)) (now (buffer .entry)) (now (buffer .exit)) r ⌝ }
 {
     chars::told_long(unit);
@@ -137,7 +138,7 @@ pub fn internal<'a>(
         }
         0x38 => {
             let clock = clock_in(unit);
-            timed(unit, clock::set_time(clock, frame, body))
+            timed(unit, clock::set_time(clock, frame, body, lag))
         }
         _ => plain_step(Outcome::Unknown),
     }

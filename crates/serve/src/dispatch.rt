@@ -70,9 +70,10 @@ fn act<'a>(
     buffer: &mut [u8],
     frame: Frame,
     body: &'a [u8],
+    lag: u32,
 ) -> Step
     requires { ⌜ (longestReply ≤ length (now buffer)) × (clockFits (coreIn (numbersIn (now unit)) .clock) ≡ true) ⌝ }
-    ensures { λ r. ⌜ ActPromise (asked frame (now (body .entry)))
+    ensures { λ r. ⌜ ActPromise lag (asked frame (now (body .entry)))
         (ownedOf (now (unit .entry)) (now (block .entry)) (now (records .entry)))
         (ownedOf (now (unit .exit)) (now (block .exit)) (now (records .exit))) (now (buffer .entry)) (now (buffer .exit)) r ⌝ }
 {
@@ -92,7 +93,7 @@ fn act<'a>(
             let ran = control::control(unit, hold, frame, body, buffer);
             controlled(unit, ran)
         }
-        0x20 => internal(unit, block, buffer, frame, body),
+        0x20 => internal(unit, block, buffer, frame, body, lag),
         0x28 => returned(unit, block, buffer, frame, body),
         _ => plain_step(Outcome::Unknown),
     }
@@ -106,15 +107,16 @@ pub fn served<'a>(
     buffer: &mut [u8],
     frame: Frame,
     body: &'a [u8],
+    lag: u32,
 ) -> Made
     requires { ⌜ (longestReply ≤ length (now buffer)) × (clockFits (coreIn (numbersIn (now unit)) .clock) ≡ true) ⌝ }
-    ensures { λ r. ⌜ ServedPromise (asked frame (now (body .entry))) (shortestFrame + frame .count)
+    ensures { λ r. ⌜ ServedPromise lag (asked frame (now (body .entry))) (shortestFrame + frame .count)
         (ownedOf (now (unit .entry)) (now (block .entry)) (now (records .entry)))
         (ownedOf (now (unit .exit)) (now (block .exit)) (now (records .exit))) (now (buffer .entry)) (now (buffer .exit)) r ⌝ }
 {
     let status = status_in(unit);
     let port = port_status_in(unit);
-    let step = act(unit, block, records, buffer, frame, body);
+    let step = act(unit, block, records, buffer, frame, body, lag);
     let outcome = step.outcome;
     let action = step.action;
     port::hear(unit, Frame::SHORTEST + frame.count as usize, outcome);

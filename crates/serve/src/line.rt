@@ -41,9 +41,10 @@ fn judged<'a>(
     records: &mut [u8],
     buffer: &mut [u8],
     s: &'a [u8],
+    lag: u32,
 ) -> Made
     requires { ⌜ (longestReply ≤ length (now buffer)) × (clockFits (coreIn (numbersIn (now unit)) .clock) ≡ true) ⌝ }
-    ensures { λ r. ⌜ JudgedPromise (now (s .entry))
+    ensures { λ r. ⌜ JudgedPromise lag (now (s .entry))
         (ownedOf (now (unit .entry)) (now (block .entry)) (now (records .entry)))
         (ownedOf (now (unit .exit)) (now (block .exit)) (now (records .exit))) (now (buffer .entry)) (now (buffer .exit)) r ⌝ }
 {
@@ -55,10 +56,10 @@ fn judged<'a>(
             let body = frames::data_of(s);
             let to = frames::unit_of(frame.address);
             if to == number_of(unit) {
-                return served(unit, block, records, buffer, frame, body);
+                return served(unit, block, records, buffer, frame, body, lag);
             }
             if to == ALL {
-                let made = broadcast(unit, frame, body);
+                let made = broadcast(unit, frame, body, lag);
                 return marked(unit, s, made);
             }
             marked(unit, s, quiet(Outcome::OtherUnit))
@@ -66,14 +67,16 @@ fn judged<'a>(
     }
 }
 
+// The lag: the milliseconds from the sync point to the idle mark, which Set Time alone looks at.
 pub fn stretch<'a>(
     unit: &mut [u8; UNIT],
     block: &mut [u8],
     records: &mut [u8],
     buffer: &mut [u8],
     s: &'a [u8],
+    lag: u32,
 ) -> Made
-    ensures { λ r. ⌜ StretchPromise (now (s .entry))
+    ensures { λ r. ⌜ StretchPromise lag (now (s .entry))
         (ownedOf (now (unit .entry)) (now (block .entry)) (now (records .entry)))
         (ownedOf (now (unit .exit)) (now (block .exit)) (now (records .exit))) (now (buffer .entry)) (now (buffer .exit)) r ⌝ }
 {
@@ -81,7 +84,7 @@ pub fn stretch<'a>(
         return quiet(Outcome::BufferShort);
     }
     if layout::fits(unit, block.len(), records.len()) {
-        return judged(unit, block, records, buffer, s);
+        return judged(unit, block, records, buffer, s, lag);
     }
     quiet(Outcome::NotConfigured)
 }

@@ -38,10 +38,10 @@ calls-after c (heeded {es = es} n h cs) = calls-after c cs ∙ ap (λ (s : State
 -- ---- what is shown
 
 -- the reply is the front of the buffer
-shown-turn : (c : Config) {k l : Kept} {s entry exit : List ℕ} {r : Made} → Turns c s k l entry exit r
-    → madeShown r exit ≡ resultOf c (stateOf c k) (coming entry s)
-shown-turn c {k} {l} {s} {entry} {exit} {r} t =
-    let x = resultOf c (stateOf c k) (coming entry s) in
+shown-turn : (c : Config) {k l : Kept} {lag : ℕ} {s entry exit : List ℕ} {r : Made} → Turns c lag s k l entry exit r
+    → madeShown r exit ≡ resultOf c (stateOf c k) (coming entry lag s)
+shown-turn c {k} {l} {lag} {s} {entry} {exit} {r} t =
+    let x = resultOf c (stateOf c k) (coming entry lag s) in
     let g : length (x .reply) ≤ length entry = omega (arith, t .counted, t .inside) in
     let e : take (r .sent) exit ≡ x .reply = rw (t .counted, t .written) (take-put-front entry (x .reply) g) in
     λ i. record { answer = t .answered i; action = t .acted i; reply = e i }

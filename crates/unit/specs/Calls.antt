@@ -34,7 +34,7 @@ answeredBy a = record { answer = a; action = Rest; reply = [] }
 -- calls in turn, each as its entry has it where the numbers are readable, on what the one before left
 pub data Calls (c : Config) : Kept → List Event → List Result → Kept → Type 0 where
   none : {k : Kept} → Calls c k [] [] k
-  heard : {k l m : Kept} {s entry exit : List ℕ} {r : Made} {es : List Event} {xs : List Result}
-      → Turns c s k l entry exit r → Calls c l es xs m → Calls c k (coming entry s ∷ es) (madeShown r exit ∷ xs) m
+  heard : {k l m : Kept} {lag : ℕ} {s entry exit : List ℕ} {r : Made} {es : List Event} {xs : List Result}
+      → Turns c lag s k l entry exit r → Calls c l es xs m → Calls c k (coming entry lag s ∷ es) (madeShown r exit ∷ xs) m
   heeded : {k l m : Kept} {e : Event} {a : Answer} {es : List Event} {xs : List Result}
       → NoStretch e → Heeds c e k l a → Calls c l es xs m → Calls c k (e ∷ es) (answeredBy a ∷ xs) m

@@ -62,7 +62,7 @@ extern "C" {
         unit: &mut [u8; UNIT], block: *mut u8, length: u64, config: &[u8; CONFIG]);
     fn osturdam_stretch(
         unit: &mut [u8; UNIT], block: *mut u8, length: u64, records: *mut u8, room: u64,
-        buffer: *mut u8, buffer_room: u64, chars: *const u8, count: u64, turned: &mut [u8; 4]) -> u8;
+        buffer: *mut u8, buffer_room: u64, chars: *const u8, count: u64, lag: u32, turned: &mut [u8; 4]) -> u8;
     fn osturdam_elapsed(
         unit: &mut [u8; UNIT], block: *const u8, length: u64, records: *const u8, room: u64,
         ms: u32) -> u8;
@@ -237,7 +237,7 @@ impl Unit {
         unsafe { osturdam_fresh(&mut m.chars, block, length, config) }
     }
 
-    pub fn stretch(&mut self, lent: Lent, buffer: &mut [u8], heard: &[u8]) -> Turned {
+    pub fn stretch(&mut self, lent: Lent, buffer: &mut [u8], heard: &[u8], lag: u32) -> Turned {
         let mut told = [0xA5; 4];
         let records = place_mut(&mut self.records[..lent.records]);
         let outcome = call!(
@@ -249,6 +249,7 @@ impl Unit {
             buffer.len() as u64,
             place(heard),
             heard.len() as u64,
+            lag,
             &mut told
         );
         Turned {

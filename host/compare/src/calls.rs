@@ -1,7 +1,7 @@
 //! Calls of one function: whole and damaged, with right and wrong data, about the state as it stands.
 
 use crate::aims::Aim;
-use crate::board::header::{self, FILES, HOLD_MS, REPLY, SILENT_MS};
+use crate::board::header::{self, FILES, HOLD_MS, LAG_MS, REPLY, SILENT_MS};
 use crate::event::Event;
 use crate::frames::{damaged, Draft};
 use crate::pair::{Pair, BUFFER};
@@ -23,7 +23,8 @@ pub fn call(rng: &mut Rng, pair: &Pair, aim: Aim) -> Event {
         Aim::Store => store(rng, c),
         _ => {
             let draft = draft(rng, pair, aim);
-            sent(rng, draft)
+            let lag = lag(rng, aim);
+            sent(rng, draft, lag)
         }
     }
 }
@@ -192,9 +193,23 @@ fn executed(rng: &mut Rng, pair: &Pair) -> Vec<u8> {
     rng.bytes(many)
 }
 
-/// A valid time, often with one character changed.
+/// What the driver measured: for a Set Time mostly what it is taken with, and the limit from both sides; for any other stretch anything.
+fn lag(rng: &mut Rng, aim: Aim) -> u32 {
+    let (most, any) = (LAG_MS as u32, rng.long());
+    let within = rng.below(LAG_MS + 1) as u32;
+    match aim {
+        Aim::SetTime => rng.pick(&[0, 1, within, within, within, most, most + 1, u32::MAX, any]),
+        _ => rng.pick(&[0, 0, within, most + 1, any]),
+    }
+}
+
+/// A valid time, often at the end of an hour, and often with one character changed.
 fn time(rng: &mut Rng) -> Vec<u8> {
-    let mut made = shapes::clock(rng).characters();
+    let mut clock = shapes::clock(rng);
+    if rng.percent(20) {
+        (clock.minute, clock.second) = (59, 59);
+    }
+    let mut made = clock.characters();
     if rng.percent(40) {
         let i = rng.below(7);
         let any = rng.byte();
@@ -230,7 +245,7 @@ fn history(rng: &mut Rng, pair: &Pair) -> u8 {
 }
 
 /// What the line makes of a frame: most come whole, some to others, some wrong in one thing.
-fn sent(rng: &mut Rng, mut draft: Draft) -> Event {
+fn sent(rng: &mut Rng, mut draft: Draft, lag: u32) -> Event {
     let mut room = rng.between(REPLY, BUFFER);
     match rng.below(100) {
         0..3 => draft.unit ^= 1 << rng.below(11),
@@ -243,6 +258,7 @@ fn sent(rng: &mut Rng, mut draft: Draft) -> Event {
             return Event::Stretch {
                 bytes: damaged(rng, &draft),
                 room,
+                lag,
             }
         }
         20..22 => room = rng.pick(&[0, 1, REPLY - 1, room - REPLY]),
@@ -252,6 +268,7 @@ fn sent(rng: &mut Rng, mut draft: Draft) -> Event {
     Event::Stretch {
         bytes: draft.bytes(),
         room,
+        lag,
     }
 }
 

@@ -35,6 +35,8 @@ pub enum Event {
     Stretch {
         bytes: Vec<u8>,
         room: usize,
+        /// Milliseconds from the sync point to the idle mark.
+        lag: u32,
     },
     Elapsed(u32),
     Word(u8, u16),
@@ -84,8 +86,9 @@ impl fmt::Display for Change {
 impl fmt::Display for Event {
     fn fmt(&self, f: &mut fmt::Formatter) -> fmt::Result {
         match self {
-            Event::Stretch { bytes, room } => {
-                write!(f, "stretch {} into a buffer of {room}", hex(bytes))
+            Event::Stretch { bytes, room, lag } => {
+                let bytes = hex(bytes);
+                write!(f, "stretch {bytes} into a buffer of {room}, lag {lag}")
             }
             Event::Elapsed(ms) => write!(f, "elapsed {ms}"),
             Event::Word(number, word) => write!(f, "set word {number:02X}h to {word}"),

@@ -16,7 +16,7 @@ pub struct Fault {
 }
 
 /// The faults, one for each kind of thing that is compared.
-pub static FAULTS: [Fault; 11] = [
+pub static FAULTS: [Fault; 13] = [
     Fault {
         name: "a select held by another is told as none",
         most: 2,
@@ -52,6 +52,26 @@ pub static FAULTS: [Fault; 11] = [
             let age = u.memory.kept(header::SELECT_AGE);
             if usize::from(u.memory.kept(header::SELECT)) == header::HELD && age > 3000 {
                 u.memory.put_kept(header::SELECT_AGE, age - 1);
+            }
+        },
+    },
+    Fault {
+        name: "a lag ages the select",
+        most: 2,
+        plant: |e, _, _, u, t, _| {
+            let age = u.memory.kept(header::SELECT_AGE);
+            if set_with_lag(e, t) && usize::from(u.memory.kept(header::SELECT)) == header::HELD {
+                u.memory.put_kept(header::SELECT_AGE, age ^ 1);
+            }
+        },
+    },
+    Fault {
+        name: "a lag is not added to the clock's seconds",
+        most: 1,
+        plant: |e, _, _, u, t, _| {
+            if set_with_lag(e, t) {
+                let sent = u16::from(set_second(e));
+                u.memory.put_kept(header::SECOND, sent);
             }
         },
     },
@@ -110,3 +130,17 @@ pub static FAULTS: [Fault; 11] = [
         },
     },
 ];
+
+/// A Set Time that was carried out came with a lag.
+fn set_with_lag(event: &Event, turned: &Turned) -> bool {
+    matches!(event, Event::Stretch { bytes, lag: 1.., .. } if bytes.len() == 15 && bytes[2..4] == [0x20, 0x38])
+        && (turned.outcome == 0 || turned.outcome == 4)
+}
+
+/// The second that a Set Time sent.
+fn set_second(event: &Event) -> u8 {
+    match event {
+        Event::Stretch { bytes, .. } => bytes[10] / 16 * 10 + bytes[10] % 16,
+        _ => 0,
+    }
+}

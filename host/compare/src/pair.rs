@@ -127,8 +127,8 @@ impl Pair {
         let (c, s) = (&self.config, &mut self.state);
         let outcome = match event {
             event if self.lent.records < self.places.room => too_few_records(event),
-            Event::Stretch { bytes, room } => {
-                return independent::stretch(c, s, params, &mut self.other[..*room], bytes)
+            Event::Stretch { bytes, room, lag } => {
+                return independent::stretch(c, s, params, &mut self.other[..*room], bytes, *lag)
             }
             Event::Elapsed(ms) => independent::elapsed(c, s, params, *ms),
             Event::Word(number, word) => independent::set_word(c, s, params, *number, *word),
@@ -256,7 +256,9 @@ fn too_few_records(event: &Event) -> u8 {
 /// Hands an event to the proved unit alone; a stretch is lent the front of the buffer.
 pub fn proved(u: &mut Unit, lent: Lent, buffer: &mut [u8], event: &Event) -> Turned {
     Turned::silent(match event {
-        Event::Stretch { bytes, room } => return u.stretch(lent, &mut buffer[..*room], bytes),
+        Event::Stretch { bytes, room, lag } => {
+            return u.stretch(lent, &mut buffer[..*room], bytes, *lag)
+        }
         Event::Elapsed(ms) => u.elapsed(lent, *ms),
         Event::Word(number, word) => u.set_word(lent, *number, *word),
         Event::Pulses(number, count) => u.pulses(lent, *number, *count),

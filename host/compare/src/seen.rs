@@ -4,12 +4,12 @@ use crate::board::header::*;
 use crate::event::Event;
 use crate::frames::VERY_LONG;
 use crate::pair::Pair;
-use independent::Answer;
+use independent::{Answer, Clock};
 
 type Known = fn(&Event, &Pair, &Answer) -> bool;
 
 /// What must have been seen.
-pub const SEEN: [(&str, Known); 40] = [
+pub const SEEN: [(&str, Known); 49] = [
     ("reply of 511 data characters", |_, _, a| a.sent == REPLY),
     ("table scan of 255 words", |_, p, a| {
         a.sent == REPLY - 1 && p.reply()[2] == 0x0A
@@ -112,6 +112,33 @@ pub const SEEN: [(&str, Known); 40] = [
     ("year's end passed", |e, p, _| {
         matches!(e, Event::Elapsed(_)) && p.unit.memory.kept(DAY) < p.before[DAY]
     }),
+    ("set with a lag over a second's end", |e, p, a| {
+        set(e, a).is_some_and(|(t, _)| u16::from(t.second) != p.unit.memory.kept(SECOND))
+    }),
+    ("set with a lag over an hour's end", |e, p, a| {
+        set(e, a).is_some_and(|(t, _)| u16::from(t.hour) != p.unit.memory.kept(HOUR))
+    }),
+    ("set with a lag over the year's end", |e, p, a| {
+        set(e, a).is_some_and(|(t, _)| t.day == 366 && p.unit.memory.kept(DAY) == 1)
+    }),
+    ("set to all with a lag", |e, _, a| {
+        set(e, a).is_some_and(|(_, lag)| lag > 0) && a.outcome == BROADCAST_DONE as u8
+    }),
+    ("set with the longest lag", |e, _, a| {
+        set(e, a).is_some_and(|(_, lag)| lag == LAG_MS)
+    }),
+    ("good time refused by its lag", |e, _, a| {
+        time(e).is_some_and(|(_, lag)| lag > LAG_MS) && a.outcome == NOT_VALID as u8
+    }),
+    ("good time to all refused by its lag", |e, _, a| {
+        time(e).is_some_and(|(_, lag)| lag > LAG_MS) && a.outcome == BROADCAST_REFUSED as u8
+    }),
+    ("good time refused by a lag one too long", |e, _, a| {
+        time(e).is_some_and(|(_, lag)| lag == LAG_MS + 1) && a.outcome == NOT_VALID as u8
+    }),
+    ("another frame with a lag past the limit", |e, _, a| {
+        a.sent > 0 && time(e).is_none() && lag(e) > LAG_MS
+    }),
     (
         "accumulator carried over",
         |e, p, a| matches!(e, Event::Pulses(n, count) if a.outcome == 0 && p.unit.memory.word(*n) < *count),
@@ -161,6 +188,29 @@ fn heard(event: &Event) -> &[u8] {
         Event::Stretch { bytes, .. } => bytes,
         _ => &[],
     }
+}
+
+/// The milliseconds that came with a stretch.
+fn lag(event: &Event) -> usize {
+    match event {
+        Event::Stretch { lag, .. } => *lag as usize,
+        _ => 0,
+    }
+}
+
+/// The time that a Set Time sent, a good one with seven characters, and its lag.
+fn time(event: &Event) -> Option<(Clock, usize)> {
+    let bytes = heard(event);
+    let data = bytes.get(6..13)?.try_into().ok()?;
+    (bytes.len() == 15 && bytes[2..4] == [0x20, 0x38])
+        .then(|| Clock::from_characters(data))?
+        .map(|sent| (sent, lag(event)))
+}
+
+/// The same of one that was carried out.
+fn set(event: &Event, answer: &Answer) -> Option<(Clock, usize)> {
+    let outcome = usize::from(answer.outcome);
+    time(event).filter(|_| outcome == DONE || outcome == BROADCAST_DONE)
 }
 
 fn master(event: &Event) -> u16 {

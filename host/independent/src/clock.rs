@@ -6,6 +6,8 @@ use crate::state::State;
 const MS_PER_DAY: u64 = 86_400_000;
 /// Day 366 is always followed by day 1.
 const DAYS: u64 = 366;
+/// The most milliseconds from the sync point to the idle mark with which a time is taken.
+pub const LONGEST_LAG: u32 = 10_000;
 
 /// The time of the unit.
 #[derive(Clone, Copy, Debug, PartialEq, Eq)]
@@ -99,16 +101,16 @@ fn from_bcd(character: u8) -> Option<u8> {
     (tens < 10 && units < 10).then_some(tens * 10 + units)
 }
 
-/// Function 20h command 38h: takes the time, or gives 7 or 8.
-pub fn set(state: &mut State, data: &[u8]) -> u8 {
+/// Function 20h command 38h: takes the time sent plus the lag since its sync point, or gives 7 or 8.
+pub fn set(state: &mut State, data: &[u8], lag: u32) -> u8 {
     let Ok(characters) = <[u8; 7]>::try_from(data) else {
         return outcome::COUNT;
     };
     match Clock::from_characters(characters) {
-        Some(clock) => {
-            state.clock = clock;
+        Some(sent) if lag <= LONGEST_LAG => {
+            state.clock = sent.after(lag);
             outcome::DONE
         }
-        None => outcome::NOT_VALID,
+        _ => outcome::NOT_VALID,
     }
 }

@@ -29,13 +29,15 @@ impl Answer {
     }
 }
 
-/// Takes one stretch; a reply is filled into the front of the buffer.
+/// Takes one stretch; a reply is filled into the front of the buffer. The lag is the milliseconds
+/// from the sync point to the idle mark, at which only Set Time looks.
 pub fn stretch(
     config: &Config,
     state: &mut State,
     params: &mut [u8],
     buffer: &mut [u8],
     bytes: &[u8],
+    lag: u32,
 ) -> Answer {
     if buffer.len() < Reply::LONGEST {
         return Answer::silent(outcome::SHORT_BUFFER);
@@ -52,18 +54,20 @@ pub fn stretch(
             port::damaged(state);
             Answer::silent(refused)
         }
-        Ok(frame) if frame.unit == BROADCAST => Answer::silent(broadcast(config, state, &frame)),
+        Ok(frame) if frame.unit == BROADCAST => {
+            Answer::silent(broadcast(config, state, &frame, lag))
+        }
         Ok(frame) if frame.unit != config.unit => Answer::silent(outcome::OTHER_UNIT),
-        Ok(frame) => answer(config, state, params, buffer, &frame),
+        Ok(frame) => answer(config, state, params, buffer, &frame, lag),
     }
 }
 
 /// A frame to all units: two commands are carried out, under their usual checks.
-fn broadcast(config: &Config, state: &mut State, frame: &Frame) -> u8 {
+fn broadcast(config: &Config, state: &mut State, frame: &Frame, lag: u32) -> u8 {
     state.bit2 = true;
     let done = match (frame.function, frame.command) {
         (0x20, 0x11) => scan::reset_count(config, state, frame.data),
-        (0x20, 0x38) => clock::set(state, frame.data),
+        (0x20, 0x38) => clock::set(state, frame.data, lag),
         _ => outcome::UNKNOWN,
     };
     match done {
@@ -79,10 +83,11 @@ fn answer(
     params: &mut [u8],
     buffer: &mut [u8],
     frame: &Frame,
+    lag: u32,
 ) -> Answer {
     let (status, port_status) = (state.status(), port::status(state));
     let mut reply = Reply::new(buffer);
-    let (outcome, action) = serve(config, state, params, frame, &mut reply);
+    let (outcome, action) = serve(config, state, params, frame, &mut reply, lag);
     let form = outcome::sent(outcome);
     if form == Sent::Nothing {
         return Answer::silent(outcome);
@@ -105,6 +110,7 @@ fn serve(
     params: &mut [u8],
     frame: &Frame,
     reply: &mut Reply,
+    lag: u32,
 ) -> (u8, Option<Action>) {
     let own_write = block::drop_own(state, frame.master);
     if control::breaks_select(state, frame) {
@@ -121,7 +127,7 @@ fn serve(
         (0x20, 0x11) => echoed_reset(config, state, frame, reply),
         (0x20, 0x30) => block::write(state, frame),
         (0x20, 0x31) => block::execute(state, params, frame, own_write),
-        (0x20, 0x38) => clock::set(state, frame.data),
+        (0x20, 0x38) => clock::set(state, frame.data, lag),
         (0x28, 0x30) => block::read(state, params, frame, reply),
         (0x28, 0x31) => read_time(state, frame, reply),
         _ => outcome::UNKNOWN,

@@ -13,7 +13,8 @@
 //!
 //! // master 1 asks for both by function 00
 //! let mut buffer = [0; REPLY];
-//! let turn = unit.stretch(&[0xD2, 0x0C, 0x00, 0x41, 0x00, 0x00, 0x52, 0x67], &mut buffer);
+//! let poll = [0xD2, 0x0C, 0x00, 0x41, 0x00, 0x00, 0x52, 0x67];
+//! let turn = unit.stretch(&poll, 0, &mut buffer);
 //! assert_eq!((turn.outcome, turn.action), (Outcome::Done, Action::Rest));
 //! assert_eq!(turn.reply[7..11], [0x01, 0x80, 0x00, 0x00]);
 //!
@@ -56,6 +57,8 @@ pub const BLOCK: usize = header::BLOCK as usize;
 pub const ROOM: usize = header::ROOM as usize;
 /// The most characters of records that a valid configuration asks for.
 pub const RECORDS: usize = header::RECORDS as usize;
+/// The longest lag, in milliseconds, with which a Set Time is taken.
+pub const LAG: u32 = header::LAG_MS;
 /// The most values in a record.
 pub const VALUES: usize = header::VALUES as usize;
 

@@ -19,7 +19,7 @@ use crate::{
 ///
 /// // any stretch is judged, and none is answered that is no whole frame
 /// let mut buffer = [0; REPLY];
-/// let turn = unit.stretch(b"noise", &mut buffer);
+/// let turn = unit.stretch(b"noise", 0, &mut buffer);
 /// assert_eq!((turn.outcome, turn.reply), (Outcome::NotWhole, &[][..]));
 /// ```
 #[derive(Clone, Debug, PartialEq, Eq)]
@@ -115,8 +115,12 @@ impl Unit {
     }
 
     /// A stretch of characters between two idle marks was heard. The caller stores the unit, then sends the reply.
-    pub fn stretch<'a>(&mut self, heard: &[u8], buffer: &'a mut [u8]) -> Turn<'a> {
-        let turned = raw::stretch(&mut self.memory, heard, buffer);
+    ///
+    /// The lag is the milliseconds from the sync point, which is the edge that ends the start bit of the fifth character, to the idle mark
+    /// behind the last one; what is handed to [`Unit::elapsed`] goes on from there. A Set Time carries the time of its sync point, and the
+    /// clock becomes that and the lag; with one over [`LAG`](crate::LAG) it is refused. No other stretch looks at it.
+    pub fn stretch<'a>(&mut self, heard: &[u8], lag: u32, buffer: &'a mut [u8]) -> Turn<'a> {
+        let turned = raw::stretch(&mut self.memory, heard, lag, buffer);
         Turn {
             outcome: Outcome::told(turned.outcome),
             action: Action::told(turned.action, turned.output),

@@ -1,12 +1,13 @@
 -- `clock::write_time` meets its contract: the seven characters are made, and go over the reply in one run.
-use Rattle.clock.proofs.CodeLaws.{bounds, time-written}
+use Rattle.model.proofs.Times.{ranges}
+use Rattle.clock.proofs.CodeLaws.{time-written}
 use native.Mathlib.Omega.{arith}
 use borrow.Author.Needs.{needs}
 use Rattle.clock.proofs.write_time.Statement.{statement}
 use Rattle.clock.proofs.write_time.Tie as tie
 
 cast-t5 : tie.Need-cast-t5
-cast-t5 c = omega (arith, bounds _ (c .before .before .pre) .last)
+cast-t5 c = omega (arith, ranges _ (c .before .before .pre) .day)
 
 cast-to-bcd : tie.Need-cast-to-bcd
 cast-to-bcd c = search needs

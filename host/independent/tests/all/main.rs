@@ -9,6 +9,7 @@ mod control;
 mod demands;
 mod history;
 mod kept;
+mod lag;
 mod order;
 mod outcomes;
 mod programs;

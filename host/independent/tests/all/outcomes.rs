@@ -236,6 +236,7 @@ fn outcome_18_short_buffer_changes_nothing() {
             &mut rig.params,
             &mut buffer,
             &asked,
+            0,
         );
         assert_eq!((answer.outcome, answer.sent, answer.action), (18, 0, None));
         assert!(buffer.iter().all(|&byte| byte == 0xA5));
@@ -248,6 +249,7 @@ fn outcome_18_short_buffer_changes_nothing() {
         &mut rig.params,
         &mut buffer,
         &asked,
+        0,
     );
     assert_eq!((answer.outcome, answer.sent), (0, 9));
 }

@@ -111,15 +111,20 @@ impl Rig {
         Rig::new(config)
     }
 
-    /// Hands over any bytes as a stretch and checks the form of the answer.
+    /// Hands over any bytes as a stretch without a lag and checks the form of the answer.
     pub fn raw(&mut self, bytes: &[u8]) -> Got {
+        self.lagged(bytes, 0)
+    }
+
+    /// As `raw`, with the milliseconds from the sync point to the idle mark.
+    pub fn lagged(&mut self, bytes: &[u8], lag: u32) -> Got {
         let mut buffer = [UNWRITTEN; 600];
         let Rig {
             config,
             state,
             params,
         } = self;
-        let answer = stretch(config, state, params, &mut buffer, bytes);
+        let answer = stretch(config, state, params, &mut buffer, bytes, lag);
         assert!(
             buffer[answer.sent..].iter().all(|&b| b == UNWRITTEN),
             "rest of the buffer"

@@ -14,6 +14,7 @@ fn short_buffer_comes_before_bad_configuration_and_empty_stretch() {
         &mut rig.params,
         &mut buffer,
         &[],
+        0,
     );
     assert_eq!(answer.outcome, 18);
 }

@@ -25,7 +25,7 @@ impl Chance {
 
 fn events(unit: &mut Unit, chance: &mut Chance) -> [Outcome; 5] {
     let mut buffer = vec![0; (chance.next() % 1100) as usize];
-    let turn = unit.stretch(&chance.chars(300), &mut buffer);
+    let turn = unit.stretch(&chance.chars(300), chance.next() as u32, &mut buffer);
     assert!(turn.reply.len() <= REPLY);
     let outcome = if turn.outcome == Outcome::BufferShort {
         Outcome::NotConfigured
@@ -97,7 +97,7 @@ fn a_short_buffer_changes_nothing() {
     let fresh = unit.to_bytes();
     for length in [0, 1, REPLY - 1] {
         let mut buffer = vec![0xEE; length];
-        let turn = unit.stretch(b"noise", &mut buffer);
+        let turn = unit.stretch(b"noise", 0, &mut buffer);
         assert_eq!(
             (turn.outcome, turn.action, turn.reply),
             (Outcome::BufferShort, Action::Rest, &[][..])

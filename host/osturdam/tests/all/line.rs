@@ -34,10 +34,15 @@ pub fn frame(master: u8, function: u8, command: u8, data: &[u8]) -> Vec<u8> {
     frame_to(UNIT, master, function, command, data)
 }
 
-/// How a stretch ended, with the whole reply.
+/// How a stretch ended that came without a lag, with the whole reply.
 pub fn heard(unit: &mut Unit, stretch: &[u8]) -> (Outcome, Action, Vec<u8>) {
+    heard_late(unit, stretch, 0)
+}
+
+/// The same with a lag.
+pub fn heard_late(unit: &mut Unit, stretch: &[u8], lag: u32) -> (Outcome, Action, Vec<u8>) {
     let mut buffer = [0xEE; REPLY];
-    let turn = unit.stretch(stretch, &mut buffer);
+    let turn = unit.stretch(stretch, lag, &mut buffer);
     let told = (turn.outcome, turn.action, turn.reply.to_vec());
     let sent = told.2.len();
     assert!(

@@ -3,6 +3,7 @@
 mod any;
 mod apart;
 mod cases;
+mod lag;
 mod letter;
 mod line;
 mod saved;

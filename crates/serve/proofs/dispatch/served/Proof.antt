@@ -65,7 +65,7 @@ returns c =
           let h = step-heard _ (a .acts) (numbers-left _ _ heard) in
           let f = rw (c .before .before .before .before .before .before .before .before .before .before .before .before .before .before .before .before .before .before .before .before .before .before .status-in .ensures, c .before .before .before .before .before .before .before .before .before .before .before .before .before .before .before .before .before .before .before .before .port-status-in .ensures ∙ status-numbered ks stands) at (c .before .before .before .before .finish .ensures) in
           makes-renumbered _ _ _ _ only
-          (record { makes = makes-served (configIn u) i q _ (s .pre .0) h (a .files) f (ends .0 (written-readable (h .kept))) refl; changed = a .changed }),
+          (record { makes = makes-served (configIn u) i (s .args .lag) q _ (s .pre .0) h (a .files) f (ends .0 (written-readable (h .kept))) refl; changed = a .changed }),
       steady-then _ _ _ (done .1) (unshifted-numbers _ _ only .steady),
     )
 

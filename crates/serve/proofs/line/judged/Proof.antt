@@ -65,7 +65,7 @@ returns c =
     let i = innerIn u (s .args .block .now) (s .args .records .now) in
     let done = c .before .before .before .before .before .before .served .ensures in (
       λ y stands.
-          judged-own (configIn u) i (s .args .s .now) (portIn ks .mark) (portIn ks) _ (sym (c .before .before .before .before .before .before .before .before .before .before .before .before .before .before .before .before .before .before .before .hear .ensures) ∙ c .before .before .before .before .before .before .before .before .before .before .before .before .before .before .before .before .before .heard .given .1) (c .before .before .before .before .before .before .before .before .before .before .before .before .before .before .before .data-of .ensures) (c .before .before .before .before .before .before .before .before .before .before .before .before .before .before .unit-of .ensures)
+          judged-own (configIn u) i (s .args .lag) (s .args .s .now) (portIn ks .mark) (portIn ks) _ (sym (c .before .before .before .before .before .before .before .before .before .before .before .before .before .before .before .before .before .before .before .hear .ensures) ∙ c .before .before .before .before .before .before .before .before .before .before .before .before .before .before .before .before .before .heard .given .1) (c .before .before .before .before .before .before .before .before .before .before .before .before .before .before .before .data-of .ensures) (c .before .before .before .before .before .before .before .before .before .before .before .before .before .before .unit-of .ensures)
           (c .before .before .before .before .before .before .before .before .before .before .before .if1 .taken ∙ c .before .before .before .before .before .before .before .before .before .before .before .before .number-of .ensures) (done .0 y stands),
       done .1,
     )
@@ -86,7 +86,7 @@ returns-2 c =
       λ y stands.
           unit-marked (s .args .s .now) _ _ _ _
           (rw (done .1 .counts)
-          (judged-all (configIn u) i (s .args .s .now) (portIn ks .mark) (portIn ks) _ (sym (c .before .before .before .before .before .before .before .before .before .before .before .before .before .hear .ensures) ∙ c .before .before .before .before .before .before .before .before .before .before .before .heard .given .1) (c .before .before .before .before .before .before .before .before .before .data-of .ensures) (c .before .before .before .before .before .before .before .before .unit-of .ensures)
+          (judged-all (configIn u) i (s .args .lag) (s .args .s .now) (portIn ks .mark) (portIn ks) _ (sym (c .before .before .before .before .before .before .before .before .before .before .before .before .before .hear .ensures) ∙ c .before .before .before .before .before .before .before .before .before .before .before .heard .given .1) (c .before .before .before .before .before .before .before .before .before .data-of .ensures) (c .before .before .before .before .before .before .before .before .unit-of .ensures)
           (λ e. c .before .before .before .before .before .if1 .left (e ∙ sym (c .before .before .before .before .before .before .number-of .ensures))) (c .before .before .before .before .if2 .taken)
           (done .0 (s .args .block .now) (i .history .files) (portIn ks .mark) (s .args .buffer .now) stands)))
           (c .marked3 .ensures),
@@ -107,7 +107,7 @@ returns-3 c =
     let i = innerIn u (s .args .block .now) (s .args .records .now) in (
       λ y stands.
           unit-marked (s .args .s .now) _ u _ _
-          (judged-broken (configIn u) i (s .args .s .now) (portIn ks .mark) (portIn ks) (readable-written ks stands) (sym (c .before .before .before .before .before .hear .ensures) ∙ c .before .before .before .enum-told .given .1) (c .before .quiet .ensures))
+          (judged-broken (configIn u) i (s .args .lag) (s .args .s .now) (portIn ks .mark) (portIn ks) (readable-written ks stands) (sym (c .before .before .before .before .before .hear .ensures) ∙ c .before .before .before .enum-told .given .1) (c .before .quiet .ensures))
           (c .marked .ensures),
       unshifted-numbers u _ (numbers-only _ _ (c .marked .ensures .1)) .steady,
     )
@@ -120,7 +120,7 @@ returns-4 c =
     let i = innerIn u (s .args .block .now) (s .args .records .now) in (
       λ y stands.
           unit-marked (s .args .s .now) _ u _ _
-          (judged-wrong (configIn u) i (s .args .s .now) (portIn ks .mark) (portIn ks) (readable-written ks stands) (sym (c .before .before .before .before .before .hear .ensures) ∙ c .before .before .before .enum-told2 .given .1) (c .before .quiet2 .ensures))
+          (judged-wrong (configIn u) i (s .args .lag) (s .args .s .now) (portIn ks .mark) (portIn ks) (readable-written ks stands) (sym (c .before .before .before .before .before .hear .ensures) ∙ c .before .before .before .enum-told2 .given .1) (c .before .quiet2 .ensures))
           (c .marked2 .ensures),
       unshifted-numbers u _ (numbers-only _ _ (c .marked2 .ensures .1)) .steady,
     )
@@ -133,7 +133,7 @@ returns-5 c =
     let i = innerIn u (s .args .block .now) (s .args .records .now) in (
       λ y stands.
           unit-marked (s .args .s .now) _ u _ _
-          (judged-other (configIn u) i (s .args .s .now) (portIn ks .mark) (portIn ks) _ (sym (c .before .before .before .before .before .before .before .before .before .before .before .before .hear .ensures) ∙ c .before .before .before .before .before .before .before .before .before .before .heard .given .1) (c .before .before .before .before .before .before .before .before .data-of .ensures) (c .before .before .before .before .before .before .before .unit-of .ensures) (readable-written ks stands)
+          (judged-other (configIn u) i (s .args .lag) (s .args .s .now) (portIn ks .mark) (portIn ks) _ (sym (c .before .before .before .before .before .before .before .before .before .before .before .before .hear .ensures) ∙ c .before .before .before .before .before .before .before .before .before .before .heard .given .1) (c .before .before .before .before .before .before .before .before .data-of .ensures) (c .before .before .before .before .before .before .before .unit-of .ensures) (readable-written ks stands)
           (λ e. c .before .before .before .before .if1 .left (e ∙ sym (c .before .before .before .before .before .number-of .ensures))) (c .before .before .before .if2 .left)
           (c .before .quiet3 .ensures))
           (c .marked4 .ensures),
