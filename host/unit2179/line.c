@@ -14,6 +14,8 @@
 #include <sys/file.h>
 #include <sys/ioctl.h>
 #include <sys/socket.h>
+#include <sys/stat.h>
+#include <sys/sysmacros.h>
 #include <termios.h>
 #include <unistd.h>
 
@@ -30,6 +32,8 @@ static const struct {
 
 enum { SPEEDS = sizeof speeds / sizeof *speeds };
 
+enum { PTY_FIRST = 136, PTY_LAST = 143 }; /* the system's numbers of pseudo-terminals among its devices */
+
 static size_t speed_of(uint32_t baud)
 {
     size_t i = 0;
@@ -41,6 +45,12 @@ static size_t speed_of(uint32_t baud)
 bool line_has_baud(uint32_t baud)
 {
     return speed_of(baud) < SPEEDS;
+}
+
+struct pace line_pace(const struct serial *serial)
+{
+    int64_t second = (int64_t)1000 * NS_OF_MS;
+    return (struct pace){(serial->parity == 'n' ? 10 : 11) * second / serial->baud, second / serial->baud};
 }
 
 static void line_empty(struct line *line, const char *name)
@@ -83,6 +93,13 @@ static bool key_sender(int file)
     return ioctl(file, TIOCSRS485, &keyed) == 0;
 }
 
+/* A pseudo-terminal has a speed by name alone. */
+static bool is_pseudo_terminal(int file)
+{
+    struct stat found;
+    return fstat(file, &found) == 0 && major(found.st_rdev) >= PTY_FIRST && major(found.st_rdev) <= PTY_LAST;
+}
+
 bool line_open_serial(struct line *line, const char *device, const struct serial *serial)
 {
     line_empty(line, device);
@@ -97,6 +114,8 @@ bool line_open_serial(struct line *line, const char *device, const struct serial
         return failed(device, "does not key an RS-485 sender");
     tcflush(file, TCIFLUSH); /* what was sent before the unit was there is not heard */
     line->channels[0].file = file;
+    if (!is_pseudo_terminal(file))
+        line->channels[0].pace = line_pace(serial);
     return true;
 }
 
@@ -221,7 +240,7 @@ void channel_read(struct channel *channel)
     ssize_t many = read(channel->file, come, sizeof come);
     if (many > 0) {
         channel->active = clock_now();
-        stretch_take(&channel->coming, come, (size_t)many, channel->active);
+        stretch_take(&channel->coming, come, (size_t)many, channel->active, &channel->pace);
     } else if (many == 0 || (errno != EAGAIN && errno != EINTR)) {
         channel->ended = true;
     }

@@ -18,6 +18,7 @@ struct channel {
     struct stretch coming; /* since its latest idle mark */
     struct stretch marked; /* up to that mark, and not yet heard */
     int64_t mark;          /* when that was */
+    struct pace pace;      /* of its characters */
     int64_t active;        /* when it was opened, or last brought something */
     uint8_t unsent[OSTURDAM_REPLY];
     size_t left;   /* characters at the end of a reply that could not be sent yet */
@@ -46,6 +47,9 @@ bool line_open_tcp(struct line *line, const char *address, const char *port, con
 
 /* Whether the line has this speed. */
 bool line_has_baud(uint32_t baud);
+
+/* A character has a start bit, eight bits, a parity bit where there is one, and a stop bit. */
+struct pace line_pace(const struct serial *serial);
 
 /* Whether all channels are in use. */
 bool line_is_full(const struct line *line);

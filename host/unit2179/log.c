@@ -90,13 +90,23 @@ static void put(struct text *t)
     torn = torn || (failing && done > 0);
 }
 
-void log_time(uint32_t ms)
+static void log_ms(const char *kind, uint32_t ms)
 {
     struct text t = {.many = 0};
     if (into < 0)
         return;
-    add(&t, "T\t%u", (unsigned)ms);
+    add(&t, "%s\t%u", kind, (unsigned)ms);
     put(&t);
+}
+
+void log_time(uint32_t ms)
+{
+    log_ms("T", ms);
+}
+
+void log_sync(uint32_t lag)
+{
+    log_ms("S", lag);
 }
 
 void log_stretch(const uint8_t *stretch, size_t heard, const struct osturdam_turned *turned, const uint8_t *reply)

@@ -3,11 +3,12 @@
  * Output actions go to standard output. The log, if there is one, has every event in its order, its fields parted by tabs:
  *   T  milliseconds that passed
  *   R  stretch heard, outcome, reply or a dash
+ *   S  milliseconds from the sync point of the Set Time in the R before it until it was heard
  *   L  why the reply of the R before it was not sent
  *   A  output, open or close
  *   E  kind of local event, its figures, outcome
  * and last, on each line, when it was written (ISO 8601, in UTC). The first two fields of its T and R lines are lines of the bench
- * program. A log that cannot be written is told once, and never stops the unit. */
+ * program, but that a Set Time there has no such milliseconds. A log that cannot be written is told once, and never stops the unit. */
 #ifndef UNIT2179_LOG_H
 #define UNIT2179_LOG_H
 
@@ -24,6 +25,7 @@ void log_reopen(void);
 
 void log_time(uint32_t ms);
 void log_stretch(const uint8_t *stretch, size_t heard, const struct osturdam_turned *turned, const uint8_t *reply);
+void log_sync(uint32_t lag);
 void log_unsent(const char *why);
 void log_event(const struct event *event, unsigned outcome);
 

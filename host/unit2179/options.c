@@ -75,11 +75,10 @@ static bool split_address(struct options *o)
     return true;
 }
 
-/* 3.5 characters of ten bits, or eleven with parity, but no less than what a host and its adapters may be late by. */
+/* 3.5 characters, but no less than what a host and its adapters may be late by. */
 static uint32_t gap_at(const struct serial *line)
 {
-    uint32_t bits = line->parity == 'n' ? 35000 : 38500;
-    uint32_t characters = (bits + line->baud - 1) / line->baud;
+    uint32_t characters = (uint32_t)((7 * line_pace(line).character / 2 + NS_OF_MS - 1) / NS_OF_MS);
     return characters > LEAST_GAP ? characters : LEAST_GAP;
 }
 
@@ -181,13 +180,23 @@ static const char help[] =
     "  --fresh                begin with a fresh unit, whatever the state file has\n"
     "  --events FIFO          read local events there (made if it is missing), or from standard input (-)\n"
     "  --log FILE             append each event and what came out, - for standard output; fields parted by tabs:\n"
-    "                         T ms, R stretch outcome reply, L why that reply was not sent, A output action,\n"
-    "                         E event figures outcome; the last field is when it was written. SIGHUP opens it again\n"
+    "                         T ms, R stretch outcome reply, S ms since the sync point of that Set Time, L why that\n"
+    "                         reply was not sent, A output action, E event figures outcome; the last field is when it\n"
+    "                         was written. SIGHUP opens it again\n"
     "  --capture FILE         append what is heard and sent as a capture (pcapng) that Wireshark opens\n"
     "  --help                 print this\n"
     "  --version              print which interface, layout and state files it has\n"
     "\n"
     "Standard output has the line's name, then a line for each output action. SIGTERM and SIGINT end it in order.\n"
+    "\n";
+
+static const char set_time_help[] =
+    "Set time: the time that a master sends is that of the sync point, where the start bit of its request's fifth character\n"
+    "ends. The milliseconds from there until the unit hears the request are added to it, by a clock of the host that no one\n"
+    "sets; if they are over 10,000, the request is refused. On a serial device the fifth character began as long before it\n"
+    "was seen as it and those seen with it take at the baud rate: what a device or adapter holds back besides, the unit's\n"
+    "clock is late by. On a pseudo-terminal or a TCP port all that can be known is when that character came, and the clock\n"
+    "is late by the time that it was under way.\n"
     "\n";
 
 static void config_help(void)
@@ -206,6 +215,7 @@ static void config_help(void)
 void options_help(void)
 {
     fputs(help, stdout);
+    fputs(set_time_help, stdout);
     config_help();
     putchar('\n');
     events_help();

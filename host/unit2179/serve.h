@@ -18,6 +18,7 @@ struct answer {
     struct channel *channel; /* NULL: it has gone */
     struct stretch heard;
     int64_t mark; /* the idle mark behind it */
+    uint32_t lag; /* milliseconds from its sync point to when the unit heard it */
     struct osturdam_turned turned;
     uint8_t reply[OSTURDAM_REPLY];
 };

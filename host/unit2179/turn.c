@@ -67,8 +67,11 @@ enum served turn_hear(struct server *s, struct channel *channel)
     channel->marked.heard = 0;
     capture_heard(a->heard.chars, a->heard.heard);
     turn_pass_time(s);
+    /* up to the millisecond that the unit was told last: from there its clock goes on, and none counts twice or not at all */
+    a->lag = stretch_lag(&a->heard, s->told);
     memcpy(before, s->all->unit.numbers, sizeof before);
-    struct osturdam_heard heard = {.chars = a->heard.chars, .count = a->heard.heard, .buffer = a->reply, .room = sizeof a->reply};
+    struct osturdam_heard heard = {
+        .chars = a->heard.chars, .count = a->heard.heard, .lag = a->lag, .buffer = a->reply, .room = sizeof a->reply};
     osturdam_hear(&s->lent, &heard, &a->turned);
     guests_heard(s, a);
     return turn_begun(s, A_REPLY_WAITS, before);
@@ -117,6 +120,8 @@ static enum served end_stretch(struct server *s)
 {
     const struct answer *a = &s->answer;
     log_stretch(a->heard.chars, a->heard.heard, &a->turned, a->reply);
+    if (stretch_sets_time(&a->heard))
+        log_sync(a->lag);
     /* an action that nobody was told of did not happen, and is not answered as done */
     if (a->turned.action != OSTURDAM_REST && !log_action(&a->turned)) {
         complain(&(struct place){"standard output", 0}, "an action of output %02Xh cannot be told: %s", a->turned.output,

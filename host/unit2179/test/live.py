@@ -25,6 +25,22 @@ from wire import Wire  # noqa: E402
 from frames import frame  # noqa: E402, F401
 
 
+DAY = 24 * 60 * 60 * 1000
+
+
+def ms_of(data):
+    """A time as requests and replies have it, in milliseconds since the year began."""
+    bcd = [10 * (c >> 4) + c % 16 for c in data]
+    return ((((100 * data[0] + bcd[1] - 1) * 24 + bcd[2]) * 60 + bcd[3]) * 60 + bcd[4]) * 1000 + 256 * data[5] + data[6]
+
+
+def time_of(ms):
+    """The seven characters of a time; day 1 follows day 366."""
+    days, seconds = ms // DAY % 366 + 1, ms // 1000
+    two = [days % 100, seconds // 3600 % 24, seconds // 60 % 60, seconds % 60]
+    return bytes([days // 100, *(16 * (n // 10) + n % 10 for n in two), ms % 1000 // 256, ms % 1000 % 256])
+
+
 def until(found, seconds=10):
     """Waits for what `found` answers, which must come within some seconds."""
     end = time.monotonic() + seconds

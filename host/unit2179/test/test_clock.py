@@ -3,16 +3,10 @@ import calendar
 import signal
 import time
 
-from live import A, SAMPLE, UNIT, LiveTest, frame, until
+from live import A, SAMPLE, UNIT, LiveTest, frame, ms_of, until
 
 READ_TIME = frame(A, UNIT, 0x28, 0x31)
 SET_TIME = frame(A, UNIT, 0x20, 0x38, bytes([0, 1, 0, 0, 0, 0, 0]))
-
-
-def seconds_of(data):
-    """A unit's time, in seconds since the year began."""
-    bcd = [10 * (c >> 4) + c % 16 for c in data]
-    return ((((100 * data[0] + bcd[1] - 1) * 24 + bcd[2]) * 60 + bcd[3]) * 60 + bcd[4]) + (256 * data[5] + data[6]) / 1000
 
 
 class Restarted(LiveTest):
@@ -43,7 +37,7 @@ class Restarted(LiveTest):
         time.sleep(1.5)
         self.assertEqual(unit.end(), 0)
         unit, wire = self.begin()
-        self.assertGreaterEqual(seconds_of(wire.ask(READ_TIME).data), 1.5)
+        self.assertGreaterEqual(ms_of(wire.ask(READ_TIME).data), 1500)
 
     def test_it_has_the_hosts_time_if_that_is_asked_for(self):
         self.configured()
@@ -54,7 +48,7 @@ class Restarted(LiveTest):
             ended = time.time()
             self.assertEqual(reply.status, 0, 'nothing needs setting up')
             year = calendar.timegm((time.gmtime(began + 3600 * hours).tm_year, 1, 1, 0, 0, 0))
-            now = seconds_of(reply.data) + year - 3600 * hours
+            now = ms_of(reply.data) / 1000 + year - 3600 * hours
             self.assertTrue(began - 0.1 <= now <= ended + 0.1, (began, now, ended))
             unit.end()
 

@@ -4,7 +4,7 @@ import random
 import socket
 import time
 
-from live import A, B, SAMPLE, UNIT, LiveTest, frame, until
+from live import A, B, SAMPLE, UNIT, LiveTest, frame, ms_of, until
 
 POLL = frame(A, UNIT, 0x00, 0x41)
 SET_TIME = frame(A, UNIT, 0x20, 0x38, bytes([0x03, 0x66, 0x23, 0x59, 0x58, 0x03, 0xE7]))
@@ -91,9 +91,9 @@ class Stretches(LiveTest):
         day_1 = wire.ask(frame(A, UNIT, 0x28, 0x31)).data
         ended = time.monotonic()
         passed = sum(int(line[1]) for line in unit.log('T')[before:])
+        [[_, lag]] = unit.log('S')
         self.assertEqual(day_1[:4], bytes([0, 1, 0, 0]), 'day 1 follows day 366')
-        seconds = 10 * (day_1[4] >> 4) + day_1[4] % 16
-        self.assertEqual(1000 * seconds + 256 * day_1[5] + day_1[6], passed - 1001, 'from 23:59:58.999')
+        self.assertEqual(ms_of(day_1), int(lag) + passed - 1001, 'from 23:59:58.999, at the sync point')
         self.assertTrue(ends - began - 0.002 <= passed / 1000 <= ended - begins + 0.002)
 
     def test_a_line_that_ends_ends_the_unit(self):
