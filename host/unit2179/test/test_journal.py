@@ -111,7 +111,7 @@ class Faults(JournalTest):
         before = self.files()['state']
         self.disk('fail rename 28')
         self.pulses(unit, 1200)  # over half of a journal, even where no millisecond passes between two
-        self.assertEqual(unit.errors().count('cannot be made anew: No space left'), 1)
+        until(lambda: unit.errors().count('cannot be made anew: No space left') == 1)
         self.assertTrue(self.files()['state'] == before)
         unit.end(signal.SIGKILL)
         self.disk()
