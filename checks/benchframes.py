@@ -34,6 +34,11 @@ def written(bias, ordinal, data, master=1):
     return [asked(0x20, 0x30, place(bias, ordinal), master), asked(0x20, 0x31, data, master)]
 
 
+def both(bias, ordinal, data, master=1, unit=UNIT):
+    """The characters of the two, with no idle mark between."""
+    return frame(0x20, 0x30, place(bias, ordinal), master, unit) + frame(0x20, 0x31, data, master, unit)
+
+
 def table(numbers, first=0, second=0):
     return bytes([first << 4 | second, len(numbers)]) + bytes(numbers)
 

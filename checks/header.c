@@ -100,6 +100,29 @@ static void stretches(void)
     EXPECT(OSTURDAM_NOTHING_AGAIN, ask(ONE, 0x04, 0x00, NULL, 0));
 }
 
+/* The outcome of a WRITE and an EXECUTE of so many characters in one stretch. */
+static int both(unsigned master, unsigned other, size_t many)
+{
+    static const uint8_t zeros[OSTURDAM_FRAME];
+    uint8_t chars[OSTURDAM_STRETCH + 1];
+    size_t write = line_frame(chars, UNIT, master, 0x20, 0x30, (const uint8_t *)"\0\0\3", 3);
+    size_t length = write + line_frame(chars + write, UNIT, other, 0x20, 0x31, zeros, many);
+    return heard(chars, length, sizeof buffer).outcome;
+}
+
+static void pairs(void)
+{
+    begin();
+    EXPECT(OSTURDAM_DONE, both(ONE, ONE, OSTURDAM_FRAME - 8));
+    EXPECT(OSTURDAM_NO_WRITE, kept(OSTURDAM_WRITE));
+    EXPECT(OSTURDAM_NOT_WHOLE, both(ONE, ONE, OSTURDAM_FRAME - 7));
+    EXPECT(OSTURDAM_NOT_WHOLE, both(ONE, OTHER, 1));
+    EXPECT(OSTURDAM_WRONG_COUNT, both(ONE, ONE, 0));
+    EXPECT(OSTURDAM_WRITE_TAKEN, ask(OTHER, 0x20, 0x30, "\0\0\3", 3));
+    EXPECT(OSTURDAM_WRITE_HELD, both(ONE, ONE, 1));
+    EXPECT(OSTURDAM_WAITS, kept(OSTURDAM_WRITE));
+}
+
 static void selects_and_writes(void)
 {
     begin();
@@ -359,6 +382,7 @@ int main(void)
 {
     checks();
     stretches();
+    pairs();
     selects_and_writes();
     blocks();
     records();

@@ -50,6 +50,7 @@ enum {
     OSTURDAM_FIXED = 528,           /* characters of the blocks of fixed length */
     OSTURDAM_BLOCK = 512,           /* the longest parameter block */
     OSTURDAM_FRAME = 136,           /* the longest frame of a master */
+    OSTURDAM_STRETCH = 147,         /* the longest stretch that is not damage: a WRITE and its EXECUTE */
     OSTURDAM_REPLY = 520,           /* the longest reply, and the shortest buffer that a stretch is served with */
     OSTURDAM_VALUES = 16,           /* the most values in a record */
     OSTURDAM_ROOM = 32,             /* the most records in a file */

@@ -4,8 +4,8 @@
 
 #include "osturdam.h"
 
-/* A character more than the longest frame has: a longer stretch is refused for its length alone. */
-enum { LINE_KEPT = OSTURDAM_FRAME + 1 };
+/* A character more than the longest stretch that is not damage has: a longer one is refused for its length alone. */
+enum { LINE_KEPT = OSTURDAM_STRETCH + 1 };
 
 struct stretch {
     uint8_t chars[LINE_KEPT];

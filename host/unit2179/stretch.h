@@ -8,8 +8,8 @@
 
 #include "osturdam.h"
 
-/* One character more than the longest frame: a longer stretch is refused for its length, so no more of it is needed. */
-enum { STRETCH_KEPT = OSTURDAM_FRAME + 1 };
+/* One character more than the longest stretch that is not damage: a longer one is refused for its length, so no more of it is needed. */
+enum { STRETCH_KEPT = OSTURDAM_STRETCH + 1 };
 
 struct stretch {
     uint8_t chars[STRETCH_KEPT];

@@ -2,7 +2,7 @@
 -- Assumes nothing.
 use mathlib.Core.Path.{_≡_, sym, ap, ap₂, _∙_}
 use mathlib.Core.List.{List, [], _∷_, _++_}
-use Prim.Native.Nat.{ℕ, zero, suc, _+_, _-_, _*_, _/_, _%_, _≤_, _<_}
+use Prim.Native.Nat.{ℕ, suc, _+_, _-_, _*_, _/_, _%_, _≤_, _<_}
 use native.Mathlib.Numerals.{add-one}
 use native.Mathlib.Omega.{arith}
 use lib.ListN.{length, take, drop, getD, drop-of-length-le, take-append-drop}
@@ -13,7 +13,7 @@ use Rattle.chars.proofs.WordLaws.{characters-word, characters-append}
 use Rattle.checkword.specs.Check.{charStep, checkFrom, checkOf}
 use Rattle.checkword.specs.Line.{Burst}
 use Rattle.checkword.proofs.Steps.{bitSteps-lt}
-use Rattle.checkword.proofs.Whole.{residue}
+use Rattle.checkword.proofs.Whole.{in-turn, residue}
 use Rattle.checkword.proofs.Bursts.{frame}
 
 -- ---- a check word is a word
@@ -55,11 +55,7 @@ pub sent : (v : ℕ) (s t : List ℕ) (k : ℕ) → v < 65536 → Characters s �
 sent v s t k h hs ht b =
     frame (characters-append s (word (checkFrom v s)) hs (characters-word (checkFrom v s) (checkFrom-lt v s h hs))) ht b v (residue v s)
 
--- where the last two characters of s are the check of those before, those of t are not
-pub stretch : (s t : List ℕ) (k : ℕ) → Characters s → Characters t → Burst s t k → 2 ≤ length s
-    → wordAt s (length s - 2) ≡ checkOf (take (length s - 2) s)
-    → wordAt t (length t - 2) ≡ checkOf (take (length t - 2) t)
-    → ⊥
-stretch s t k hs ht b h p q =
-    let l : length s ≡ length t = b .long in
-    frame hs ht b 0 (checkOf-stretch s hs h p) (checkOf-stretch t ht (omega arith) q)
+-- two parts that leave 0 leave 0 joined, so that what a burst makes of them joined does not (Request 5.5)
+pub joined : (n : ℕ) (s : List ℕ) → checkOf (take n s) ≡ 0 → checkOf (drop n s) ≡ 0 → checkOf s ≡ 0
+joined n s p q =
+    ap (λ x. checkOf x) (sym (take-append-drop n s)) ∙ sym (in-turn 0 (take n s) (drop n s)) ∙ ap (λ v. checkFrom v (drop n s)) p ∙ q

@@ -1,4 +1,5 @@
 -- The laws that the proofs of this crate cite, and what its contracts leave open: nothing.
 pub mod DataLaws
+pub mod HearLaws
 pub mod FillLaws
 pub mod Unique

@@ -1,4 +1,4 @@
-// Frames: a stretch read as a master's frame, and a reply written round its data in a lent buffer.
+// Frames: a stretch read as a master's frame or as a pair, and a reply written round its data in a lent buffer.
 use chars::put_char;
 use chars::put_word;
 use chars::word_at;
@@ -8,16 +8,24 @@ use model::Heard;
 use model::Master;
 use model::Reply;
 ghost use mathlib.Core.Path.{_≡_};
+ghost use mathlib.Core.Bool.{true};
 ghost use Prim.Native.Nat.{_-_, _≤_};
 ghost use lib.ListN.{length};
 ghost use Rattle.chars.specs.Put.{put, part};
-ghost use Rattle.model.specs.Frame.{unitOf, masterOf, addressOf, heardOf, headChars};
+ghost use Rattle.model.specs.Frame.{unitOf, masterOf, addressOf, whole, checked, frameIn, commands, paired, heardOf, headChars};
 ghost use Rattle.frames.specs.Framed.{framedIn};
 
 pub mod outcomes;
 
 // The data of a master's frame stand behind the six characters of its head.
 const DATA: usize = 6;
+
+// Function 20h, and its commands that make a pair.
+const INTERNAL: u8 = 0x20;
+
+const WRITE: u8 = 0x30;
+
+const EXECUTE: u8 = 0x31;
 
 pub fn unit_of(address: u16) -> u16
     ensures { λ r. ⌜ r ≡ unitOf address ⌝ }
@@ -38,27 +46,84 @@ pub fn address_of(master: Master, unit: u16) -> u16
     2048 * high + unit % 2048
 }
 
-// Length is judged before the check, so that a stretch cut short is never called one with wrong check characters.
-pub fn hear(stretch: &[u8]) -> Heard
-    ensures { λ r. ⌜ r ≡ heardOf (now (stretch .entry)) ⌝ }
+// ---- a stretch
+
+// 8 to 136 characters, and as many as 8 plus the count.
+fn is_whole(stretch: &[u8]) -> bool
+    ensures { λ r. ⌜ r ≡ whole (now (stretch .entry)) ⌝ }
 {
     let len = stretch.len();
     if len < Frame::SHORTEST {
-        return Heard::Broken;
+        return false;
     }
     if len > Frame::LONGEST {
-        return Heard::Broken;
+        return false;
     }
+    len - Frame::SHORTEST == word_at(stretch, 4) as usize
+}
+
+// The last two characters are the check of all before them.
+fn is_checked(stretch: &[u8]) -> bool
+    requires { ⌜ whole (now stretch) ≡ true ⌝ }
+    ensures { λ r. ⌜ r ≡ checked (now (stretch .entry)) ⌝ }
+{
+    let end = stretch.len() - 2;
+    word_at(stretch, end) == check_word(0, &stretch[..end])
+}
+
+fn head_in(stretch: &[u8]) -> Frame
+    requires { ⌜ whole (now stretch) ≡ true ⌝ }
+    ensures { λ r. ⌜ r ≡ frameIn (now (stretch .entry)) ⌝ }
+{
+    let address = word_at(stretch, 0);
     let count = word_at(stretch, 4);
-    if len - Frame::SHORTEST != count as usize {
-        return Heard::Broken;
+    Frame::new(address, stretch[2], stretch[3], count as u8)
+}
+
+// A frame of function 20h with this command, by itself whole and checked.
+fn is_command(stretch: &[u8], command: u8) -> bool
+    ensures { λ r. ⌜ r ≡ commands command (now (stretch .entry)) ⌝ }
+{
+    if is_whole(stretch) {
+        if is_checked(stretch) {
+            return (stretch[2] == INTERNAL) & (stretch[3] == command);
+        }
     }
-    let end = len - 2;
-    if word_at(stretch, end) != check_word(0, &stretch[..end]) {
+    false
+}
+
+// A WRITE and one EXECUTE with the same address.
+fn is_pair(stretch: &[u8]) -> bool
+    ensures { λ r. ⌜ r ≡ paired (now (stretch .entry)) ⌝ }
+{
+    if stretch.len() < Frame::WRITE {
+        return false;
+    }
+    if is_command(&stretch[..Frame::WRITE], WRITE) {
+        if is_command(&stretch[Frame::WRITE..], EXECUTE) {
+            return word_at(stretch, 0) == word_at(stretch, Frame::WRITE);
+        }
+    }
+    false
+}
+
+// Length is judged before the check, so that a stretch cut short is never called one with wrong check characters; what is no whole frame
+// may be a pair.
+pub fn hear(stretch: &[u8]) -> Heard
+    ensures { λ r. ⌜ r ≡ heardOf (now (stretch .entry)) ⌝ }
+{
+    if is_whole(stretch) {
+        if is_checked(stretch) {
+            return Heard::Whole(head_in(stretch));
+        }
         return Heard::Wrong;
     }
-    let address = word_at(stretch, 0);
-    Heard::Whole(Frame::new(address, stretch[2], stretch[3], count as u8))
+    if is_pair(stretch) {
+        let write = head_in(&stretch[..Frame::WRITE]);
+        let execute = head_in(&stretch[Frame::WRITE..]);
+        return Heard::Pair(write, execute);
+    }
+    Heard::Broken
 }
 
 // The data stand between head and check; a stretch too short for both has none.

@@ -1,13 +1,13 @@
 -- A frame to all units, carried out or not, leaves select, write and history. Assumes nothing.
 use Prim.Native.Nat.{ℕ, _≤_}
-use mathlib.Core.Path.{_≡_, refl, sym, _∙_}
+use mathlib.Core.Path.{_≡_, refl, ap, _∙_}
 use mathlib.Core.List.{List}
-use mathlib.Core.Bool.{true, _&&_}
+use mathlib.Core.Bool.{_&&_}
 use lib.Dec.{eqb}
 use native.Mathlib.Omega.{arith}
-use borrow.Author.Tests.{eqb-true, eqb-false}
+use borrow.Author.Tests.{eqb-true}
 use Rattle.chars.specs.Word.{wordAt}
-use Rattle.model.specs.Frame.{Request, unitOf, broadcastUnit, whole, checked, frameIn, heardOf, requestIn}
+use Rattle.model.specs.Frame.{Request, unitOf, broadcastUnit, frameIn, heardOf, requestIn}
 use Rattle.model.specs.Config.{Config}
 use Rattle.model.specs.State.{Inner, State}
 use Rattle.model.specs.Event.{Stretch, stretch}
@@ -17,9 +17,10 @@ use Rattle.model.specs.Laws.{Untouched}
 use Rattle.model.specs.declared.Outcome.{Outcome}
 use Rattle.model.specs.declared.Outcome.the-variants.{NotWhole, CheckWrong, OtherUnit}
 use Rattle.model.specs.declared.Answer.the-variants.{Ended}
-use Rattle.model.specs.declared.Heard.{Heard}
 use Rattle.model.specs.declared.Core.{Core}
 use Rattle.model.proofs.Conditions.{by-cond}
+use Rattle.model.proofs.PairLaws.{by-heard, pair-address}
+use Rattle.model.proofs.Pairs.{by-pair}
 use Rattle.model.proofs.Runs.{by-next}
 
 -- what a function that a broadcast may carry out leaves of the core
@@ -53,10 +54,11 @@ module _ (c : Config) (i : Inner) (named : c .unit ≤ 0x7FE) (lag : ℕ) where
       (λ e. by-cond Leaves (eqb (unitOf (q .address)) broadcastUnit) (λ e. made-leaves _ (broadcast-spares q)) (λ e. quiet-leaves OtherUnit))
 
   stretch-leaves : (t : List ℕ) → unitOf (wordAt t 0) ≡ broadcastUnit → Leaves (judged c i lag t (heardOf t))
-  unfolding judged heardOf frameIn
+  unfolding judged frameIn requestIn
   stretch-leaves t a =
-      let P : Heard → Type 0 = λ x. Leaves (judged c i lag t x) in
-      by-cond P (whole t) (λ e. by-cond P (checked t) (λ e. framed-leaves (requestIn (frameIn t) t) (unfold requestIn in a)) (λ e. quiet-leaves CheckWrong)) (λ e. quiet-leaves NotWhole)
+      by-heard t (λ x. Leaves (judged c i lag t x)) (λ w. framed-leaves (requestIn (frameIn t) t) a) (quiet-leaves CheckWrong)
+      (λ p. let e = ap unitOf (pair-address t _ _ p .0) ∙ a in by-pair c i lag t _ _ p Leaves (λ o t. absurd (omega arith)) (λ n. framed-leaves _ e))
+      (quiet-leaves NotWhole)
 
 -- of every state, and a damaged one or one with a short buffer too
 pub broadcast-untouched : (c : Config) (s : State) (t : Stretch) → c .unit ≤ 0x7FE → unitOf (wordAt (t .chars) 0) ≡ broadcastUnit

@@ -1,44 +1,19 @@
--- Cases 1 to 12 of document 01's bench cases: one table, and one statement that the definitions make of each what the table tells.
+-- Cases 1 to 12 of document 01's bench cases, and pairs: a table of each, and one statement that the definitions make of each case what
+-- its table tells.
 -- Assumes nothing.
 use mathlib.Core.Path.{_≡_, refl}
-use Prim.Native.Nat.{ℕ, zero, suc, _+_, _*_, _-_, _/_, _%_}
+use Prim.Native.Nat.{ℕ, zero, suc, _+_}
 use mathlib.Core.List.{List, [], _∷_, _++_}
-use mathlib.Core.Bool.{Bool, true, false, cond}
+use mathlib.Core.Bool.{cond}
 use lib.ListN.{length, getD, take, set, replicate}
 use Rattle.chars.specs.Put.{put, part}
 use Rattle.chars.specs.Word.{word, value, wordAt}
 use Rattle.chars.specs.Gather.{gather, upFrom, every}
 use Rattle.checkword.specs.Check.{bitStep, bitSteps, charStep, checkFrom, checkOf}
-use Rattle.model.specs.Frame.{
-  Request,
-  unitOf,
-  masterOf,
-  whole,
-  checked,
-  frameIn,
-  heardOf,
-  requestIn,
-  withCheck,
-  frameChars,
-  headChars,
-  replyChars,
-}
+use Rattle.model.specs.Frame.{unitOf, masterOf, whole, checked, frameIn, commands, paired, heardOf, requestIn, withCheck, frameChars, headChars, replyChars}
 use Rattle.model.specs.Outcome.{damaged, replyFunction, answerNumber}
 use Rattle.model.specs.Config.{Config, has, within, accumulator, noneIn, fileValid, validOf, hasFile, hasCalculation, sizeOf}
-use Rattle.model.specs.State.{
-  Areas,
-  History,
-  Inner,
-  State,
-  heldIn,
-  storeIn,
-  cutIn,
-  freshCore,
-  freshAreas,
-  freshHistory,
-  freshPort,
-  freshOf,
-}
+use Rattle.model.specs.State.{History, heldIn, storeIn, cutIn, freshCore, freshAreas, freshHistory, freshPort, freshOf}
 use Rattle.model.specs.Change.{applied, addedBy, changedBy}
 use Rattle.model.specs.Scan.{counts, withNoData}
 use Rattle.model.specs.Inputs.{unreserved, chosen, wordOf, inputsOf, hasAccumulator, pulsesOf}
@@ -95,6 +70,10 @@ use Rattle.model.specs.Step.{
   stepOf,
   served,
   framed,
+  broadcastOf,
+  broadcastMade,
+  followed,
+  brokenOff,
   judged,
   coreAfter,
   elapsedMade,
@@ -106,7 +85,7 @@ use Rattle.model.specs.Step.{
   makeOf,
 }
 use Rattle.model.specs.Port.{markNumber, portStatus, sentChars, markAfter, silentAfter, portHeard, portAfter}
-use Rattle.model.specs.Run.{short, turnedAway, shows, moves, decided, Result, resultOf, nextOf, afterFrom, after}
+use Rattle.model.specs.Run.{short, turnedAway, shows, moves, decided, resultOf, nextOf, afterFrom, after}
 use Rattle.model.specs.Bench.{benchConfig, hears}
 use Rattle.model.specs.declared.Action.{Action}
 use Rattle.model.specs.declared.Action.the-variants.{Rest, Operate}
@@ -244,6 +223,62 @@ table =
     }
     ∷ []
 
+-- ---- pairs (Request 5)
+
+-- 20h/30h for ordinal 03 from its start on and 20h/31h of so many characters 7, in one stretch with these addresses
+unfoldable pub both : ℕ → ℕ → ℕ → List ℕ
+both a b n =
+    frameChars (record { address = a; function = 0x20; command = 0x30; body = 0 ∷ 0 ∷ 3 ∷ [] })
+    ++ frameChars (record { address = b; function = 0x20; command = 0x31; body = replicate n 7 })
+
+-- of master 1 to unit 1234, to another unit, and to all; of master 2
+unfoldable pub pair : ℕ → Event
+pair n = hears (both 0x0CD2 0x0CD2 n)
+
+unfoldable pub elsewhere : Event
+elsewhere = hears (both 0x0CD3 0x0CD3 2)
+
+unfoldable pub toAll : Event
+toAll = hears (both 0x0FFF 0x0FFF 2)
+
+unfoldable pub writesOther : Event
+writesOther = hears (frameChars (record { address = 0x14D2; function = 0x20; command = 0x30; body = 0 ∷ 0 ∷ 3 ∷ [] }))
+
+-- each with the EXECUTE that comes next, which tells if a write still waits
+unfoldable pub twice : List Event → Event → List ℕ
+twice es e = outcomeOf (wider 1) es e ++ outcomeOf (wider 1) (es ++ (e ∷ [])) (asks 0x20 0x31 (9 ∷ []))
+
+unfoldable pub pairTable : List Case
+pairTable =
+    -- taken: the reply is the EXECUTE's, its characters are there, and the write is gone
+    record {
+      number = 1;
+      made = twice [] (pair 2) ++ (part (replyOf (wider 1) [] (pair 2)) 0 7 ++ part (after (wider 1) (pair 2 ∷ []) .inner .areas .fixed) 15 4);
+      told = 0 ∷ 14 ∷ 0xD2 ∷ 0x0C ∷ 0x20 ∷ 0x80 ∷ 0x54 ∷ 0 ∷ 0 ∷ 0 ∷ 7 ∷ 7 ∷ 0 ∷ [];
+    }
+    -- without characters of data it is 7, and the write is gone
+    ∷ record { number = 2; made = length (both 0x0CD2 0x0CD2 0) ∷ twice [] (pair 0); told = 19 ∷ 7 ∷ 14 ∷ [] }
+    -- 12, the select gone and no write; 15, the other's write stays
+    ∷ record {
+      number = 3;
+      made = twice (asks 0x10 0x11 (1 ∷ []) ∷ []) (pair 2) ++ outcomeOf (wider 1) (asks 0x10 0x11 (1 ∷ []) ∷ pair 2 ∷ []) (asks 0x10 0x20 []);
+      told = 12 ∷ 14 ∷ 14 ∷ [];
+    }
+    ∷ record { number = 4; made = twice (writesOther ∷ []) (pair 2); told = 15 ∷ 15 ∷ [] }
+    -- for another unit; to all, and then bit 2 shows
+    ∷ record { number = 5; made = twice [] elsewhere; told = 3 ∷ 14 ∷ [] }
+    ∷ record { number = 6; made = twice [] toAll ++ (getD (replyOf (wider 1) (toAll ∷ []) scan) 3 0 ∷ []); told = 16 ∷ 14 ∷ 0x84 ∷ [] }
+    -- the cut at the seam leaves a WRITE that is taken
+    ∷ record { number = 7; made = twice [] (hears (take 11 (both 0x0CD2 0x0CD2 2))); told = 5 ∷ 0 ∷ [] }
+    -- 137 characters that are a pair; the most and one more
+    ∷ record { number = 8; made = length (both 0x0CD2 0x0CD2 118) ∷ twice [] (pair 118); told = 137 ∷ 0 ∷ 14 ∷ [] }
+    ∷ record { number = 9; made = length (both 0x0CD2 0x0CD2 128) ∷ twice [] (pair 128); told = 147 ∷ 0 ∷ 14 ∷ [] }
+    ∷ record { number = 10; made = length (both 0x0CD2 0x0CD2 129) ∷ twice [] (pair 129); told = 148 ∷ 1 ∷ 14 ∷ [] }
+    -- two masters, or a changed check of the EXECUTE: neither is acted on
+    ∷ record { number = 11; made = twice [] (hears (both 0x0CD2 0x14D2 2)); told = 1 ∷ 14 ∷ [] }
+    ∷ record { number = 12; made = twice [] (hears (set (both 0x0CD2 0x0CD2 2) 20 0)); told = 1 ∷ 14 ∷ [] }
+    ∷ []
+
 unfoldable pub numbers : List Case → List ℕ
 numbers [] = []
 numbers (x ∷ xs) = x .number ∷ numbers xs
@@ -256,16 +291,18 @@ unfoldable pub eachTold : List Case → List (List ℕ)
 eachTold [] = []
 eachTold (x ∷ xs) = x .told ∷ eachTold xs
 
--- the cases are 1 to 12, and the definitions make of each what it tells
-pub record AllCases (xs : List Case) : Type 0 where
+-- the cases are 1 to 12, and the definitions make of each what it tells, and of each pair
+pub record AllCases (xs ys : List Case) : Type 0 where
   pub numbered : numbers xs ≡ 1 ∷ 2 ∷ 3 ∷ 4 ∷ 5 ∷ 6 ∷ 7 ∷ 8 ∷ 9 ∷ 10 ∷ 11 ∷ 12 ∷ []
   pub met : eachMade xs ≡ eachTold xs
+  pub pairs : eachMade ys ≡ eachTold ys
 
-pub cases : AllCases table
+pub cases : AllCases table pairTable
 unfolding
+    both pair elsewhere toAll writesOther twice pairTable
     table checkCase numbers eachMade eachTold wider asks scan damage writes record16 records16 chars16 setDay acted outcomeOf replyOf clockOf frame benchConfig
     put part word value wordAt gather upFrom bitStep bitSteps charStep checkFrom
-    unitOf masterOf whole checked frameIn heardOf requestIn withCheck frameChars headChars replyChars
+    unitOf masterOf whole checked frameIn commands paired heardOf requestIn withCheck frameChars headChars replyChars
     damaged replyFunction has within accumulator every noneIn fileValid validOf hasFile hasCalculation sizeOf
     heldIn storeIn cutIn applied addedBy changedBy freshCore freshAreas freshHistory freshPort freshOf counts withNoData
     unreserved chosen wordOf inputsOf hasAccumulator pulsesOf
@@ -275,6 +312,6 @@ unfolding
     acknowledges dumps fileOf flat historyChars freedFor mostOf toldFrom tellOf historyOf recordChars storedWhen storedAs
     masterFits holdFits writeFits coreFits givable replyFits memoryFits fileFits historyFits areasFit portFits fits
     controlled timed written executed scanned internalOf otherOf statusOf sentAs answered quiet settled finished alone telling internalStep stepOf
-    served framed judged coreAfter elapsedMade localMade wordMade notedIn storeMade localOf makeOf
+    served framed broadcastOf broadcastMade followed judged brokenOff coreAfter elapsedMade localMade wordMade notedIn storeMade localOf makeOf
     markNumber portStatus sentChars markAfter silentAfter portHeard portAfter short turnedAway shows moves decided resultOf nextOf afterFrom
-cases = record { numbered = refl; met = refl }
+cases = record { numbered = refl; met = refl; pairs = refl }

@@ -1,5 +1,5 @@
--- Demand 3, damage: a damaged frame gets no reply and leaves all but the port as it was, so every later entry is alike. Assumes nothing.
-use Prim.Native.Nat.{ℕ, zero, suc, _+_, _-_, _<_}
+-- Demand 3, damage: a damaged frame or pair gets no reply and leaves all but the port as it was, so every later entry is alike. Assumes nothing.
+use Prim.Native.Nat.{ℕ, zero, suc, _+_, _-_, _<_, _≤_}
 use mathlib.Core.Path.{_≡_, refl, sym, ap, _∙_}
 use mathlib.Core.Logic.{_⊎_, inl, inr}
 use mathlib.Core.List.{List, [], _∷_, _++_}
@@ -11,27 +11,31 @@ use borrow.Author.Tests.{le-ltb, lt-ltb}
 use Rattle.chars.specs.Word.{word}
 use Rattle.chars.proofs.WordLaws.{length-word}
 use Rattle.checkword.specs.Check.{checkOf}
-use Rattle.model.specs.Limits.{longestReply}
-use Rattle.model.specs.Frame.{Request, heardOf, withCheck, headChars, replyChars, frameChars}
-use Rattle.model.specs.Sound.{Sound, requestHead}
+use Rattle.model.specs.Limits.{writeFrame, longestReply}
+use Rattle.model.specs.Frame.{Request, unitOf, heardOf, requestIn, withCheck, headChars, replyChars, frameChars}
+use Rattle.model.specs.Sound.{Sound, requestHead, WholePair}
 use Rattle.model.specs.Config.{Config, validOf}
 use Rattle.model.specs.State.{Inner, State, freshPort, freshOf}
 use Rattle.model.specs.Fits.{portFits, fits}
 use Rattle.model.specs.Event.{Stretch, Event, stretch}
-use Rattle.model.specs.Step.{Sent, silent, said, Made, quiet, judged, makeOf}
+use Rattle.model.specs.Step.{Sent, silent, said, Made, quiet, finished, stepOf, judged, makeOf}
 use Rattle.model.specs.Port.{portStatus, sentChars}
 use Rattle.model.specs.Run.{short, Result, turnedAway, shows, moves, decided, resultOf, nextOf, Entry, entryOf, afterFrom, traceFrom, after}
 use Rattle.model.specs.Formed.{AllGiven}
-use Rattle.model.specs.Damage.{Good, Damaged, cut, changed, Checked, AlikeReply, AlikeEntry, AlikeTrace, none, more, Spoilt, clean, intact, spoilt}
-use Rattle.model.specs.Demand3.{Ends, Unseen}
+use Rattle.model.specs.Damage.{frame, Good, Damaged, Checked, AlikeReply, AlikeEntry, AlikeTrace, none, more, Spoilt, clean, intact, spoilt}
+use Rattle.model.specs.Demand3.{Ends, Unseen, LeavesWrite}
+use Rattle.model.specs.Laws.{WriteAnswered}
 use Rattle.model.specs.declared.Outcome.{Outcome}
 use Rattle.model.specs.declared.Outcome.the-variants.{NotWhole, CheckWrong, NotConfigured, BufferShort}
 use Rattle.model.specs.declared.Answer.the-variants.{Ended}
 use Rattle.model.specs.declared.Action.the-variants.{Rest}
 use Rattle.model.specs.declared.Mark.{Mark}
-use Rattle.model.specs.declared.Heard.the-variants.{Broken, Wrong}
+use Rattle.model.specs.declared.Frame.{Frame}
+use Rattle.model.specs.declared.Heard.the-variants.{Broken, Wrong, Whole}
 use Rattle.model.proofs.Conditions.{by-bool}
-use Rattle.model.proofs.FrameLaws.{heard-whole, whole-heard, read-back, sent-characters, cut as cut-broken, burst}
+use Rattle.model.proofs.FrameLaws.{whole-heard, read-back, sent-characters}
+use Rattle.model.proofs.PairLaws.{heard-whole, unheard}
+use Rattle.model.proofs.Pairs.{framed-own, seam-ends}
 use Rattle.model.proofs.Runs.{by-next, by-run}
 use Rattle.model.proofs.Valid.{port-fits, run-fits}
 use Rattle.model.proofs.TurnedAway.{short-away, unfit-away, works}
@@ -41,12 +45,7 @@ use Rattle.model.proofs.TurnedAway.{short-away, unfit-away, works}
 -- what a master lays out is a good frame
 pub good-sent : (q : Request) → Sound q → Good (frameChars q)
 good-sent q h =
-    record { characters = sent-characters q h; head = requestHead q; whole = heard-whole (frameChars q) (requestHead q) (read-back q h .0) }
-
--- it is heard as no whole frame, or with a wrong check
-pub unheard : {t : List ℕ} → Damaged t → (heardOf t ≡ Broken) ⊎ (heardOf t ≡ Wrong)
-unheard (cut {s = s} {n = n} g l) = inl (cut-broken s (g .head) n (whole-heard s (g .head) (g .whole)) l)
-unheard (changed {s = s} {t = t} {k = k} g h b) = burst s t k (g .head) (g .characters) h (whole-heard s (g .head) (g .whole)) b
+    record { characters = sent-characters q h; carries = frame (heard-whole (frameChars q) (requestHead q) (read-back q h .0)) }
 
 -- what a working unit makes of it
 record Unmoved (i : Inner) (m : Made) : Type 0 where
@@ -235,6 +234,25 @@ damage c xs t d ys =
       later = rw (after-append c (freshOf c) xs (e ∷ [])) (a .0);
       kept = rw (after-append c (freshOf c) xs (e ∷ ys), after-append c (freshOf c) xs ys) (a .1 .inner);
     }
+
+-- a pair cut at its seam is the WRITE that it leaves, no damage
+module _ (c : Config) (xs : List Event) (t : Stretch) {s : List ℕ} {w x : Frame} (p : WholePair s w x) (e : t .chars ≡ take writeFrame s) where
+  left-heard : heardOf (t .chars) ≡ Whole w
+  left-heard = rw e (whole-heard (take writeFrame s) w (p .write))
+
+  left-made : (i : Inner) → unitOf (w .address) ≡ c .unit → makeOf c i (stretch t) ≡ finished i (requestIn w (take writeFrame s)) (stepOf c i (t .lag) (requestIn w (take writeFrame s)))
+  unfolding makeOf judged requestIn
+  left-made i own = rw (left-heard, e) (framed-own c i (t .lag) (requestIn w (take writeFrame s)) own)
+
+  left-ends : longestReply ≤ t .room → validOf c ≡ true → AllGiven xs → unitOf (w .address) ≡ c .unit → WriteAnswered (resultOf c (after c xs) (stretch t) .answer)
+  unfolding short shows finished
+  left-ends l v g own =
+      let i = after c xs .inner in
+      rw (works c (after c xs) (stretch t) (le-ltb (t .room) longestReply l) (run-fits c xs v g) .0, left-made i own)
+      (record { outcome = _; ends = seam-ends c i (t .lag) s w x p own; answer = refl })
+
+  pub seam : LeavesWrite c xs t w
+  seam = record { heard = left-heard; ends = left-ends }
 
 -- any number of damaged stretches
 spoilt-from : (c : Config) {xs ys : List Event} → Spoilt xs ys → (s t : State) → Twins s t → Twins (afterFrom c s xs) (afterFrom c t ys)

@@ -9,7 +9,7 @@ use Rattle.model.specs.Run.{Entry, entryOf, afterFrom, traceFrom, after,
 use Rattle.model.specs.Line.{storedBy, storedIn, releasedIn}
 use Rattle.model.specs.Damage.{Damaged, AlikeEntry, AlikeTrace, none, more}
 use Rattle.model.specs.Demand3.{heldBy, Demand3}
-use Rattle.model.proofs.Damage.{damage, after-append, trace-append}
+use Rattle.model.proofs.Damage.{damage, after-append, trace-append, seam}
 use Rattle.model.proofs.Records.{records, remembered, came, accounted, repeated}
 
 -- ---- the records of a run with a damaged stretch are those of the run without it
@@ -55,6 +55,7 @@ demand-3 c =
     record {
       damage = damage c;
       spared = λ xs t d ys g. record { stored = stored-same c xs t d ys g; released = released-same c xs t d ys g };
+      seam = λ xs t p e. seam c xs t p e;
       records = records c;
       events = accounted c;
       latest = λ es e. came c (trace c es) e;

@@ -1,27 +1,24 @@
--- Laws of frames: addresses, when a stretch is heard as what, a request read back, and damage that is never heard as a frame.
+-- Laws of frames: addresses, when a stretch is a whole frame, and a request read back.
 -- Assumes nothing.
 use mathlib.Core.Path.{_≡_, refl, sym, ap, _∙_}
-use mathlib.Core.Logic.{_⊎_, inl, inr}
 use Prim.Native.Nat.{ℕ, zero, suc, _+_, _*_, _-_, _/_, _%_, _<_, _≤_}
 use native.Mathlib.Omega.{arith}
 use mathlib.Core.List.{List, [], _∷_, _++_, append-nil}
-use mathlib.Core.Bool.{Bool, true, false, cond, _&&_}
+use mathlib.Core.Bool.{Bool, true, false, _&&_}
 use lib.ListN.{length, getD, take, length-append}
-use lib.Seq.{getD-take, length-take-le, take-at}
+use lib.Seq.{take-at}
 use lib.Dec.{leb, eqb}
-use borrow.Author.Tests.{leb-true, leb-false, eqb-true, le-leb, lt-leb, eq-eqb, ne-eqb}
+use borrow.Author.Tests.{leb-true, eqb-true, le-leb, lt-leb, eq-eqb}
 use Rattle.chars.specs.Put.{part}
 use Rattle.chars.specs.Word.{Characters, word, wordAt}
 use Rattle.chars.proofs.WordLaws.{word-read, length-word, characters-word, characters-append}
 use Rattle.checkword.specs.Check.{checkOf}
-use Rattle.checkword.specs.Line.{Burst}
-use Rattle.checkword.proofs.Frame.{checkOf-lt, stretch}
+use Rattle.checkword.proofs.Frame.{checkOf-lt}
 use Rattle.model.specs.Frame.{Request, unitOf, masterOf, addressOf, whole, checked, frameIn, heardOf, requestIn, withCheck, frameChars}
 use Rattle.model.specs.Sound.{Sound, requestHead, WholeFrame}
 use Rattle.model.specs.declared.Master.{Master}
 use Rattle.model.specs.declared.Frame.{Frame}
-use Rattle.model.specs.declared.Heard.{Heard}
-use Rattle.model.specs.declared.Heard.the-variants.{Broken, Wrong, Whole}
+use Rattle.model.specs.declared.Heard.the-variants.{Whole}
 
 -- ---- addresses: joined and split, split and joined
 
@@ -38,7 +35,7 @@ pub split-address : (a : ℕ) → a < 65536 → addressOf (masterOf a) (unitOf a
 unfolding unitOf masterOf addressOf
 split-address a h = omega arith
 
--- ---- when a stretch is heard as what
+-- ---- when a stretch is a whole frame
 
 and-both : (a b : Bool) → (a && b) ≡ true → (a ≡ true) × (b ≡ true)
 and-both true b e = (refl, e)
@@ -46,64 +43,48 @@ and-both false b e = let z : _≡_ {A = ℕ} 0 1 = cc in absurd (omega arith)
 
 module _ (s : List ℕ) where
   -- no whole frame: under 8 characters, over 136, or not as many as its count tells
-  pub short-broken : length s < 8 → heardOf s ≡ Broken
-  unfolding heardOf whole
-  short-broken h = rw (lt-leb 8 (length s) h)
+  pub short-unwhole : length s < 8 → whole s ≡ false
+  unfolding whole
+  short-unwhole h = rw (lt-leb 8 (length s) h)
 
-  pub long-broken : 8 ≤ length s → 136 < length s → heardOf s ≡ Broken
-  unfolding heardOf whole
-  long-broken l h = rw (le-leb 8 (length s) l, lt-leb (length s) 136 h)
+  pub long-unwhole : 8 ≤ length s → 136 < length s → whole s ≡ false
+  unfolding whole
+  long-unwhole l h = rw (le-leb 8 (length s) l, lt-leb (length s) 136 h)
 
-  pub count-broken : 8 ≤ length s → length s ≤ 136 → (length s ≡ 8 + wordAt s 4 → ⊥) → heardOf s ≡ Broken
-  unfolding heardOf whole
-  count-broken l m h = rw (le-leb 8 (length s) l, le-leb (length s) 136 m, ne-eqb (length s) (8 + wordAt s 4) h)
-
-  module _ (l : 8 ≤ length s) (m : length s ≤ 136) (n : length s ≡ 8 + wordAt s 4) where
-    is-whole : whole s ≡ true
-    unfolding whole
-    is-whole = rw (le-leb 8 (length s) l, le-leb (length s) 136 m, eq-eqb (length s) (8 + wordAt s 4) n)
-
-    -- as long as it tells, and the check is wrong
-    pub check-wrong : (wordAt s (length s - 2) ≡ checkOf (take (length s - 2) s) → ⊥) → heardOf s ≡ Wrong
-    unfolding heardOf checked
-    check-wrong h = rw (is-whole, ne-eqb (wordAt s (length s - 2)) (checkOf (take (length s - 2) s)) h)
-
-    -- as long as it tells, and the check is right
-    pub check-right : wordAt s (length s - 2) ≡ checkOf (take (length s - 2) s) → heardOf s ≡ Whole (frameIn s)
-    unfolding heardOf checked
-    check-right h = rw (is-whole, eq-eqb (wordAt s (length s - 2)) (checkOf (take (length s - 2) s)) h)
+  pub count-whole : 8 ≤ length s → length s ≤ 136 → whole s ≡ eqb (length s) (8 + wordAt s 4)
+  unfolding whole
+  count-whole l m = rw (le-leb 8 (length s) l, le-leb (length s) 136 m)
 
   -- ---- what a whole frame shows, and no other stretch
 
-  tests-true : (f : Frame) → heardOf s ≡ Whole f → (whole s ≡ true) × (checked s ≡ true) × (f ≡ frameIn s)
-  unfolding heardOf
-  tests-true f e = go (whole s) (checked s) refl refl e
-    where
-      go : (a b : Bool) → whole s ≡ a → checked s ≡ b → cond a (cond b (Whole (frameIn s)) Wrong) Broken ≡ Whole f
-          → (whole s ≡ true) × (checked s ≡ true) × (f ≡ frameIn s)
-      go true true w k h = (w, k, (cc))
-      go true false w k h = let z : _≡_ {A = ℕ} 0 1 = cc in absurd (omega arith)
-      go false b w k h = let z : _≡_ {A = ℕ} 0 1 = cc in absurd (omega arith)
-
-  pub heard-whole : (f : Frame) → heardOf s ≡ Whole f → WholeFrame s f
-  unfolding whole checked frameIn
-  heard-whole f e =
-      let t = tests-true f e in
-      let a = and-both (leb 8 (length s)) (leb (length s) 136 && eqb (length s) (8 + wordAt s 4)) (t .0) in
+  pub whole-long : whole s ≡ true → (8 ≤ length s) × (length s ≤ 136) × (length s ≡ 8 + wordAt s 4)
+  unfolding whole
+  whole-long w =
+      let a = and-both (leb 8 (length s)) (leb (length s) 136 && eqb (length s) (8 + wordAt s 4)) w in
       let b = and-both (leb (length s) 136) (eqb (length s) (8 + wordAt s 4)) (a .1) in
+      (leb-true 8 (length s) (a .0), leb-true (length s) 136 (b .0), eqb-true (length s) (8 + wordAt s 4) (b .1))
+
+  pub tests-frame : whole s ≡ true → checked s ≡ true → WholeFrame s (frameIn s)
+  unfolding checked frameIn
+  tests-frame w k =
+      let l = whole-long w in
       record {
-        head = t .2;
-        short = leb-true 8 (length s) (a .0);
-        long = leb-true (length s) 136 (b .0);
-        count = rw (t .2) (eqb-true (length s) (8 + wordAt s 4) (b .1));
-        check = eqb-true (wordAt s (length s - 2)) (checkOf (take (length s - 2) s)) (t .1);
+        head = refl;
+        short = l .0;
+        long = l .1;
+        count = l .2;
+        check = eqb-true (wordAt s (length s - 2)) (checkOf (take (length s - 2) s)) k;
       }
 
-  pub whole-heard : (f : Frame) → WholeFrame s f → heardOf s ≡ Whole f
-  unfolding frameIn
-  whole-heard f w =
+  pub frame-tests : (f : Frame) → WholeFrame s f → (whole s ≡ true) × (checked s ≡ true)
+  unfolding checked frameIn
+  frame-tests f w =
       let e : length s ≡ 8 + wordAt s 4 = rw (w .head) at (w .count) in
-      check-right (w .short) (w .long) e (w .check) ∙ ap Whole (sym (w .head))
+      (count-whole (w .short) (w .long) ∙ eq-eqb (length s) (8 + wordAt s 4) e, eq-eqb (wordAt s (length s - 2)) (checkOf (take (length s - 2) s)) (w .check))
+
+  pub whole-heard : (f : Frame) → WholeFrame s f → heardOf s ≡ Whole f
+  unfolding heardOf
+  whole-heard f w = let t = frame-tests f w in rw (t .0, t .1) (ap Whole (sym (w .head)))
 
 -- ---- a request as the master lays it out is read back
 
@@ -203,37 +184,3 @@ module _ (q : Request) where
   pub sent-characters : Sound q → Characters (frameChars q)
   unfolding frameChars before-check
   sent-characters h = checked-characters (before-check q) (before-characters h)
-
--- ---- damage
-
-by-order : {P : Type 0} (a b : ℕ) → (a < b → P) → (b ≤ a → P) → P
-by-order {P} a b f g = go (leb b a) refl
-  where
-    go : (t : Bool) → leb b a ≡ t → P
-    go true e = g (leb-true b a e)
-    go false e = f (leb-false b a e)
-
--- a frame that lost at least one character at its end
-pub cut : (s : List ℕ) (f : Frame) (n : ℕ) → heardOf s ≡ Whole f → n < length s → heardOf (take n s) ≡ Broken
-unfolding wordAt frameIn
-cut s f n e h =
-    let w = heard-whole s f e in
-    let l : length (take n s) ≡ n = length-take-le n s (omega arith) in
-    let c : length s ≡ 8 + wordAt s 4 = rw (w .head) at (w .count) in
-    by-order n 8 (λ k. short-broken (take n s) (omega arith))
-    (λ k.
-    count-broken (take n s) (omega arith) (omega (arith, w .long))
-    (λ z. omega (arith, getD-take n s 4 0 (omega arith), getD-take n s 5 0 (omega arith))))
-
--- a frame in which bits were changed, all of them within sixteen neighbours on the line
-pub burst : (s t : List ℕ) (k : ℕ) (f : Frame) → Characters s → Characters t → heardOf s ≡ Whole f → Burst s t k
-    → (heardOf t ≡ Broken) ⊎ (heardOf t ≡ Wrong)
-burst s t k f hs ht e b = go (heardOf t) refl
-  where
-    go : (h : Heard) → heardOf t ≡ h → (heardOf t ≡ Broken) ⊎ (heardOf t ≡ Wrong)
-    go Broken g = inl g
-    go Wrong g = inr g
-    go (Whole x) g =
-        let v = heard-whole s f e in
-        let w = heard-whole t x g in
-        absurd (stretch s t k hs ht b (omega (arith, v .short)) (v .check) (w .check))

@@ -8,7 +8,7 @@ use lib.Dec.{eqb}
 use native.Mathlib.Omega.{arith}
 use borrow.Author.Tests.{eqb-true, le-leb, lt-leb, eq-eqb, ne-eqb}
 use Rattle.model.specs.Limits.{mostLag}
-use Rattle.model.specs.Frame.{Request, unitOf, broadcastUnit, heardOf, requestIn}
+use Rattle.model.specs.Frame.{Request, unitOf, broadcastUnit, frameIn, heardOf, requestIn}
 use Rattle.model.specs.Outcome.{carriedOut}
 use Rattle.model.specs.Config.{Config}
 use Rattle.model.specs.State.{Areas, Inner, State}
@@ -17,7 +17,7 @@ use Rattle.model.specs.Scan.{tells, refuses, counts}
 use Rattle.model.specs.Control.{breaks}
 use Rattle.model.specs.Clock.{timeIn, timeFits, clockAfter, setTimeOf}
 use Rattle.model.specs.Event.{Stretch, stretch}
-use Rattle.model.specs.Step.{timed, internalOf, Made, settled, finished, alone, quiet, internalStep, stepOf, served, broadcastOf, broadcastMade, framed, judged, makeOf}
+use Rattle.model.specs.Step.{timed, internalOf, Made, settled, finished, alone, quiet, internalStep, stepOf, served, broadcastOf, broadcastMade, framed, followed, judged, makeOf}
 use Rattle.model.specs.Port.{portAfter}
 use Rattle.model.specs.Run.{short, Result, shows, moves, decided, resultOf, nextOf}
 use Rattle.model.specs.Refusal.{refusedState}
@@ -28,9 +28,9 @@ use Rattle.model.specs.declared.Clock.{Clock}
 use Rattle.model.specs.declared.Hold.{Hold}
 use Rattle.model.specs.declared.Core.{Core}
 use Rattle.model.specs.declared.Frame.{Frame}
-use Rattle.model.specs.declared.Heard.{Heard}
-use Rattle.model.specs.declared.Heard.the-variants.{Broken, Wrong, Whole}
+use Rattle.model.specs.declared.Heard.the-variants.{Whole}
 use Rattle.model.proofs.Conditions.{and-left, and-right, and-both, cond-then, cond-else}
+use Rattle.model.proofs.PairLaws.{by-heard}
 use Rattle.model.proofs.Times.{after-after}
 use Rattle.model.proofs.TurnedAway.{works}
 use Rattle.model.proofs.Refusals.{refusal-next}
@@ -75,19 +75,26 @@ module _ (a b : ℕ) where
     framed-alike c i =
         rw (step-alike c i, broadcast-alike c (i .core) (i .areas))
 
-  judged-alike : (c : Config) (i : Inner) (s : List ℕ) (h : Heard) → ((f : Frame) → h ≡ Whole f → goodSet (requestIn f s) ≡ false)
-      → judged c i a s h ≡ judged c i b s h
-  unfolding judged
-  judged-alike c i s Broken n = refl
-  judged-alike c i s Wrong n = refl
-  judged-alike c i s (Whole f) n = framed-alike (requestIn f s) (n f refl) c i
+  followed-alike : (c : Config) (x : Request) (m : Made) → goodSet x ≡ false → followed c a x m ≡ followed c b x m
+  unfolding followed
+  followed-alike c x m n = rw (framed-alike x n c (m .inner))
+
+  judged-alike : (c : Config) (i : Inner) (s : List ℕ) → ((f : Frame) → heardOf s ≡ Whole f → goodSet (requestIn f s) ≡ false)
+      → judged c i a s (heardOf s) ≡ judged c i b s (heardOf s)
+  unfolding judged goodSet requestIn
+  judged-alike c i s =
+      by-heard s (λ h. ((f : Frame) → h ≡ Whole f → goodSet (requestIn f s) ≡ false) → judged c i a s h ≡ judged c i b s h)
+      (λ w n. framed-alike (requestIn (frameIn s) s) (n _ refl) c i) (λ n. refl)
+      (λ p n.
+      ap (followed c a _) (framed-alike _ (rw (p .writes .0, p .writes .1)) c i) ∙ followed-alike c _ _ (rw (p .executes .0, p .executes .1)))
+      (λ n. refl)
 
   -- THE LAW: what is no good Set Time shows and leaves the same with every lag
   pub lag-ignored : (c : Config) (s : State) (t : Stretch) → ((f : Frame) → heardOf (t .chars) ≡ Whole f → goodSet (requestIn f (t .chars)) ≡ false)
       → (resultOf c s (stretch (lagging t a)) ≡ resultOf c s (stretch (lagging t b)))
       × (nextOf c s (stretch (lagging t a)) ≡ nextOf c s (stretch (lagging t b)))
   unfolding resultOf nextOf decided short makeOf moves portAfter
-  lag-ignored c s t n = rw (judged-alike c (s .inner) (t .chars) (heardOf (t .chars)) n) (refl, refl)
+  lag-ignored c s t n = rw (judged-alike c (s .inner) (t .chars) n) (refl, refl)
 
 -- ---- a good Set Time, for this unit and for all
 

@@ -3,6 +3,7 @@ pub mod Unique
 pub mod FileLaws
 pub mod AreaLaws
 pub mod FrameLaws
+pub mod PairLaws
 pub mod Ages
 pub mod Cases
 pub mod Runs
@@ -14,6 +15,7 @@ pub mod Refusing
 pub mod RefusedStretch
 pub mod LocalRefusals
 pub mod TurnedAway
+pub mod Pairs
 pub mod Changes
 pub mod Refusals
 pub mod Damage

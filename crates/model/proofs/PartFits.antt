@@ -10,7 +10,7 @@ use borrow.Author.Tests.{eqb-true, leb-true, le-leb, ltb-true, lt-ltb, eq-eqb}
 use Rattle.chars.specs.Gather.{upFrom, every}
 use Rattle.chars.specs.Word.{Characters, wordAt}
 use Rattle.model.specs.Limits.{holdTime, mostLag, fileRoom}
-use Rattle.model.specs.Frame.{Request, masterOf, frameIn, requestIn}
+use Rattle.model.specs.Frame.{Request, masterOf}
 use Rattle.model.specs.Config.{Config, has, within, hasFile}
 use Rattle.model.specs.State.{Files, History, heldIn, storeIn}
 use Rattle.model.specs.Change.{stays, adds, applied, changedBy}
@@ -47,8 +47,8 @@ use Rattle.model.proofs.FileLaws.{held-stored, store-grows, cut-shrinks
 -- ---- masters and the clock
 
 -- two characters leave five bits for the master
-pub heard-fits : (s : List ℕ) → Characters s → masterFits (masterOf (requestIn (frameIn s) s .address)) ≡ true
-unfolding masterFits masterOf requestIn frameIn wordAt
+pub heard-fits : (s : List ℕ) → Characters s → masterFits (masterOf (wordAt s 0)) ≡ true
+unfolding masterFits masterOf wordAt
 heard-fits s g = omega (arith, le-leb, g 0, g 1)
 
 clock-fits : (k : Clock) → 1 ≤ k .day → k .day ≤ 366 → k .hour ≤ 23 → k .minute ≤ 59 → k .second ≤ 59 → k .ms ≤ 999 → clockFits k ≡ true

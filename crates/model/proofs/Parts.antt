@@ -5,7 +5,8 @@ use mathlib.Core.List.{List, []}
 use mathlib.Core.Bool.{true, _&&_}
 use lib.ListN.{length}
 use lib.Dec.{eqb, ltb}
-use Rattle.model.specs.Frame.{Request, unitOf, masterOf, broadcastUnit, frameIn, heardOf, requestIn, whole, checked}
+use Rattle.chars.specs.Word.{wordAt}
+use Rattle.model.specs.Frame.{Request, unitOf, masterOf, broadcastUnit, frameIn, heardOf, requestIn}
 use Rattle.model.specs.Outcome.{numberOf}
 use Rattle.model.specs.Config.{Config, hasFile}
 use Rattle.model.specs.State.{Areas, History, Inner}
@@ -73,6 +74,8 @@ use Rattle.model.specs.declared.Memory.{Memory}
 use Rattle.model.specs.declared.Memory.the-variants.{Nothing, Remembered}
 use Rattle.model.specs.declared.Core.{Core}
 use Rattle.model.proofs.Conditions.{by-cond}
+use Rattle.model.proofs.PairLaws.{by-heard, pair-address}
+use Rattle.model.proofs.Pairs.{by-pair}
 use Rattle.model.proofs.FileLaws.{toldAfter, newTold}
 use Rattle.model.proofs.AreaLaws.{SameLengths, setWord-long, pulses-long, resetCount-long, setValue-long, execute-long}
 
@@ -108,7 +111,7 @@ record SteppedHas (p : Parts) (i : Inner) (m : Stepped) : Type 0 where
 
 -- it outlasts each definition that changes a part, and these are all
 pub record Lasts (c : Config) (p : Parts) : Type 0 where
-  pub heard : (s : Stretch) → p .event (stretch s) → p .request (requestIn (frameIn (s .chars)) (s .chars))
+  pub heard : (s : Stretch) (q : Request) → p .event (stretch s) → q .address ≡ wordAt (s .chars) 0 → p .request q
   pub set-time : (lag : ℕ) (k : Clock) (q : Request) → p .clock k → p .clock (setTimeOf lag k q .clock)
   pub clock-after : (k : Clock) (ms : ℕ) → p .clock k → p .clock (clockAfter k ms)
   pub free : p .hold Free
@@ -295,14 +298,22 @@ module _ (c : Config) (p : Parts) (l : Lasts c p) where
         (λ e. broadcastMade-has _ (broadcast-has (i .core) (i .areas) (h .core) (h .areas) lag q))
         (λ e. quiet-has (Ended OtherUnit) i h))
 
-    -- a stretch that was not heard as a frame changes nothing
-    stretch-has : (lag : ℕ) (s : List ℕ) → p .request (requestIn (frameIn s) s) → Makes p (judged c i lag s (heardOf s))
-    unfolding judged heardOf
-    stretch-has lag s g =
-        by-cond (λ x. Makes p (judged c i lag s x)) (whole s)
-        (λ e. by-cond (λ x. Makes p (judged c i lag s x)) (checked s) (λ e. framed-has lag (requestIn (frameIn s) s) g) (λ e. quiet-has (Ended CheckWrong) i h))
-        (λ e. quiet-has (Ended NotWhole) i h)
+  made-inner : (m : Made) → Makes p m → InnerHas p (m .inner)
+  unfolding Makes
+  made-inner m h = h
 
+  -- a stretch that was heard as no frame changes nothing, a pair what its frames change
+  stretch-has : (i : Inner) → InnerHas p i → (lag : ℕ) (s : List ℕ) → ((q : Request) → q .address ≡ wordAt s 0 → p .request q)
+      → Makes p (judged c i lag s (heardOf s))
+  unfolding judged frameIn requestIn
+  stretch-has i h lag s g =
+      by-heard s (λ x. Makes p (judged c i lag s x)) (λ w. framed-has i h lag _ (g _ refl)) (quiet-has (Ended CheckWrong) i h)
+      (λ d. let a = pair-address s _ _ d in
+      let m = framed-has i h lag _ (g _ (a .0)) in
+      by-pair c i lag s _ _ d (Makes p) (λ o t. framed-has _ (made-inner _ m) lag _ (g _ (a .1))) (λ e. m))
+      (quiet-has (Ended NotWhole) i h)
+
+  module _ (i : Inner) (h : InnerHas p i) where
     elapsed-has : (ms : ℕ) → Makes p (elapsedMade i ms)
     unfolding Makes elapsedMade quiet coreAfter
     elapsed-has ms =
@@ -346,7 +357,7 @@ module _ (c : Config) (p : Parts) (l : Lasts c p) where
 
     makes : (e : Event) → p .event e → Makes p (makeOf c i e)
     unfolding makeOf
-    makes (stretch s) g = stretch-has (s .lag) (s .chars) (l .heard s g)
+    makes (stretch s) g = stretch-has i h (s .lag) (s .chars) (λ q. l .heard s q g)
     makes (elapsed ms) g = elapsed-has ms
     makes (local e) g = makes-local e
 

@@ -3,18 +3,23 @@ use Prim.Native.Nat.{ℕ, _≤_}
 use mathlib.Core.Path.{_≡_, refl, sym, ap, _∙_}
 use mathlib.Core.List.{List}
 use mathlib.Core.Bool.{true, false, not, _&&_, true≢false}
+use lib.ListN.{take, drop}
 use lib.Dec.{eqb, leb, ltb}
 use native.Mathlib.Omega.{arith}
 use borrow.Author.Tests.{leb-true, ne-eqb}
-use Rattle.model.specs.Frame.{Request, unitOf, broadcastUnit, whole, checked, frameIn, heardOf, requestIn}
+use Rattle.model.specs.Limits.{writeFrame}
+use Rattle.model.specs.Frame.{Request, masterOf, unitOf, broadcastUnit, frameIn, heardOf, requestIn}
 use Rattle.model.specs.Outcome.{numberOf, sendingOf, carriedOut}
 use Rattle.model.specs.Config.{Config, within, hasFile}
 use Rattle.model.specs.State.{Files, Inner}
 use Rattle.model.specs.Change.{Change, applied, changedBy}
 use Rattle.model.specs.Scan.{refuses, counts}
-use Rattle.model.specs.Control.{breaks}
+use Rattle.model.specs.Sound.{WholePair}
+use Rattle.model.specs.Control.{isOf, breaks}
+use Rattle.model.specs.Blocks.{dropped}
+use Rattle.model.specs.Laws.{taken, brokenOff as broke, held, PairEnds, done, wrongCount, notValid, unwritten}
 use Rattle.model.specs.History.{Told, acknowledges, fileOf, untold, toldFrom, agrees, againWhen, tellOf, historyOf}
-use Rattle.model.specs.Step.{Step, withHold, scanned, Said, sentAs, answered, Made, quiet, settled, Stepped, finished, alone, telling, initialStep, internalStep, stepOf, served, broadcastMade, framed, judged}
+use Rattle.model.specs.Step.{Step, withHold, withWrite, scanned, Said, sentAs, answered, Made, quiet, settled, Stepped, finished, alone, telling, initialStep, internalStep, stepOf, served, broadcastMade, framed, judged}
 use Rattle.model.specs.Refusal.{declined, refusedHold, refusedWrite, refusedBroadcast, refusedCore, refusedInner, replies, Refused}
 use Rattle.model.specs.declared.Outcome.{Outcome}
 use Rattle.model.specs.declared.Outcome.the-variants.{Done, NotWhole, CheckWrong, OtherUnit, BroadcastDone, WriteTaken, Unknown, WrongCount, NotValid, TooLong, NothingAgain, SelectTimedOut, BrokenOff, SelectHeld, NothingWaits, WriteHeld, BroadcastRefused, NotConfigured, BufferShort}
@@ -24,8 +29,13 @@ use Rattle.model.specs.declared.Answer.the-variants.{Ended}
 use Rattle.model.specs.declared.Core.{Core}
 use Rattle.model.specs.declared.Memory.{Memory}
 use Rattle.model.specs.declared.Memory.the-variants.{Nothing, Remembered}
-use Rattle.model.specs.declared.Heard.{Heard}
+use Rattle.model.specs.declared.Frame.{Frame}
+use Rattle.model.specs.declared.Heard.the-variants.{Pair}
+use Rattle.model.specs.declared.Write.{Write}
+use Rattle.model.specs.declared.Pending.the-variants.{NoWrite, Waits}
 use Rattle.model.proofs.Conditions.{by-cond, by-bool, and-left, and-right}
+use Rattle.model.proofs.PairLaws.{by-heard, pair-address}
+use Rattle.model.proofs.Pairs.{by-pair, pair-made}
 use Rattle.model.proofs.Refusing.{itself, Plain, Kept, broadcast-plain, declines, internal-kept, other-kept, broken-off-kept}
 
 -- ---- a stretch
@@ -184,12 +194,58 @@ module _ (i : Inner) (q : Request) where
       (λ e. by-cond P (eqb (unitOf (q .address)) broadcastUnit) (λ e. meets-made (broadcast-meets _ (broadcast-plain (i .core) (i .areas) c lag q)))
       (λ e. passes OtherUnit refl refl (omega arith)))
 
-pub judged-meets : (c : Config) (i : Inner) (lag : ℕ) (t : List ℕ) → Meets (requestIn (frameIn t) t) i (judged c i lag t) (heardOf t)
-unfolding heardOf judged refusedInner refusedCore refusedHold refusedWrite refusedBroadcast declined within
-judged-meets c i lag t =
-    let q = requestIn (frameIn t) t in
-    let P : Heard → Type 0 = Meets q i (judged c i lag t) in
-    by-cond P (whole t)
-    (λ e. by-cond P (checked t) (λ e. record { refuses = framed-meets i q c lag .refuses })
-    (λ e. record { refuses = passes i q CheckWrong refl refl (omega arith) .refuses }))
-    (λ e. record { refuses = passes i q NotWhole refl refl (omega arith) .refuses })
+-- a pair: what is refused of its EXECUTE, or of its WRITE, is refused of the stretch
+refused-alike : (o : Outcome) (i : Inner) (q w : Request) → w .address ≡ q .address → refusedInner w o i ≡ refusedInner q o i
+unfolding refusedInner refusedCore refusedWrite
+refused-alike o i q w e = rw e
+
+-- an answered refusal drops the write that the WRITE left, as it drops an earlier one
+refused-taken : (o : Outcome) (i : Inner) (q : Request) (v : Write) → declined o ≡ true → isOf (v .master) (masterOf (q .address)) ≡ true
+    → dropped (i .core .write) (masterOf (q .address)) ≡ NoWrite
+    → refusedInner q o (record { core = withWrite (i .core) (Waits v); areas = i .areas; history = i .history }) ≡ refusedInner q o i
+unfolding refusedInner refusedCore refusedWrite dropped
+refused-taken o i q v d m e = rw (d, m, e)
+
+pair-declined : {o : Outcome} → PairEnds o → carriedOut o ≡ false → declined o ≡ true
+unfolding declined within carriedOut
+pair-declined done e = sym e
+pair-declined wrongCount e = refl
+pair-declined notValid e = refl
+pair-declined (unwritten taken n) e = sym e
+pair-declined (unwritten broke n) e = refl
+pair-declined (unwritten held n) e = refl
+
+module _ (c : Config) (i : Inner) (lag : ℕ) (t : List ℕ) where
+  abbrev first : Request
+  first = requestIn (frameIn t) t
+
+  pair-meets : (w x : Frame) (p : WholePair t w x) → Meets first i (judged c i lag t) (Pair w x)
+  unfolding requestIn frameIn
+  pair-meets w x p =
+      let a = pair-address t w x p in
+      record {
+        refuses = λ o e n. by-pair c i lag t w x p (λ m. m .answer ≡ Ended o → Refused first o i m)
+            (λ own v d.
+            let made = pair-made c i lag t w x p own in
+            let f : Ended (made .outcome) ≡ Ended o = sym (made .answer) ∙ e in
+            let z : made .outcome ≡ o = cc in
+            let r = framed-meets _ (requestIn x (drop writeFrame t)) c lag .refuses o d n in
+            record {
+              inner = r .inner ∙ ap (refusedInner (requestIn x (drop writeFrame t)) o) (v .inner)
+                  ∙ refused-taken o i (requestIn x (drop writeFrame t)) (v .write) (pair-declined (rw z at (made .ends)) n) (rw (← (p .address)) (v .owner)) (rw (← (p .address)) (v .earlier))
+                  ∙ refused-alike o i first (requestIn x (drop writeFrame t)) (a .1);
+              action = r .action;
+              sent = r .sent;
+              row = r .row;
+            })
+            (λ unwrote d.
+            let r = framed-meets i (requestIn w (take writeFrame t)) c lag .refuses o d n in
+            record { inner = r .inner ∙ refused-alike o i first (requestIn w (take writeFrame t)) (a .0); action = r .action; sent = r .sent; row = r .row }) e;
+      }
+
+  pub judged-meets : Meets first i (judged c i lag t) (heardOf t)
+  unfolding judged refusedInner refusedCore refusedHold refusedWrite refusedBroadcast declined within
+  judged-meets =
+      by-heard t (Meets first i (judged c i lag t)) (λ w. record { refuses = framed-meets i first c lag .refuses })
+      (record { refuses = passes i first CheckWrong refl refl (omega arith) .refuses }) (pair-meets _ _)
+      (record { refuses = passes i first NotWhole refl refl (omega arith) .refuses })

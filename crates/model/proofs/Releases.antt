@@ -1,6 +1,6 @@
 -- One event moves the records as the line shows: a request for this unit, any other stretch, and the events that are no stretch. Assumes nothing.
 use Prim.Native.Nat.{ℕ, _+_, _*_, _/_, _≤_, _<_, min}
-use mathlib.Core.Path.{_≡_, refl, sym, ap, _∙_}
+use mathlib.Core.Path.{_≡_, refl, sym, ap, _∙_, subst}
 use mathlib.Core.List.{List, [], _∷_, _++_, append-nil}
 use mathlib.Core.Bool.{Bool, true, false, cond, not, _&&_, Bool·beq}
 use lib.ListN.{length, getD, take, length-append}
@@ -9,7 +9,7 @@ use lib.Dec.{eqb, ltb}
 use native.Mathlib.Nat.{div-lt-iff-lt-mul}
 use native.Mathlib.Omega.{arith}
 use borrow.Author.Tests.{eqb-true, eq-eqb, ltb-true}
-use Rattle.model.specs.Frame.{Request, unitOf, masterOf, broadcastUnit, heardOf, requestIn}
+use Rattle.model.specs.Frame.{Request, unitOf, masterOf, broadcastUnit, frameIn, heardOf, requestIn}
 use Rattle.model.specs.Outcome.{sendingOf, functionBits, replyFunction}
 use Rattle.model.specs.Config.{Config, hasFile, sizeOf}
 use Rattle.model.specs.State.{Areas, Files, History, Inner, heldIn, storeIn}
@@ -30,7 +30,7 @@ use Rattle.model.specs.declared.Stored.the-variants.{Kept, Full, NotEqui
 use Rattle.model.specs.declared.Answer.{Answer}
 use Rattle.model.specs.declared.Answer.the-variants.{Ended}
 use Rattle.model.specs.declared.Heard.{Heard}
-use Rattle.model.specs.declared.Heard.the-variants.{Broken, Wrong, Whole}
+use Rattle.model.specs.declared.Heard.the-variants.{Broken, Wrong, Whole, Pair}
 use Rattle.model.specs.declared.Master.{Master}
 use Rattle.model.specs.declared.File.{File}
 use Rattle.model.specs.declared.Mark.{Mark}
@@ -38,6 +38,8 @@ use Rattle.model.specs.declared.Core.{Core}
 use Rattle.model.specs.declared.HistoryReply.{HistoryReply}
 use Rattle.model.specs.declared.Memory.{Memory}
 use Rattle.model.specs.declared.Memory.the-variants.{Nothing, Remembered}
+use Rattle.model.proofs.PairLaws.{by-heard}
+use Rattle.model.proofs.Pairs.{by-pair}
 use Rattle.model.proofs.Conditions.{by-cond, false-true, and-left, and-right, and-both}
 use Rattle.model.proofs.FileLaws.{held-store, held-front, stored-kept}
 use Rattle.model.proofs.Shape.{sized-rest}
@@ -285,11 +287,30 @@ module _ (c : Config) (l : Latest) (i : Inner) (mark : Mark) (t : Matches (i .hi
       by-cond P (eqb (unitOf (q .address)) (c .unit)) (λ e. served-fine lag q)
       (λ e. by-cond P (eqb (unitOf (q .address)) broadcastUnit) (λ e. broadcast-fine q (broadcastOf c (i .core) (i .areas) lag q)) (λ e. quiet-fine q (Ended OtherUnit) (i .core) (i .areas)))
 
-  judged-fine : (lag : ℕ) (s : List ℕ) (h : Heard) → Moved l (i .history) (shownIn c s h (sentChars mark (judged c i lag s h .sent))) nothing (judged c i lag s h .inner .history)
-  unfolding Fine shownIn judged quiet
-  judged-fine lag s Broken = still t refl
-  judged-fine lag s Wrong = still t refl
-  judged-fine lag s (Whole f) = framed-fine lag (requestIn f s)
+-- a pair: neither is of history, and the WRITE leaves it as it was
+module _ (c : Config) (l : Latest) (i : Inner) (mark : Mark) (t : Matches (i .history) l)
+    (sized : (g : ℕ) → AllSized (sizeOf (c .values) g) (heldIn (i .history .files) g)) where
+  beside-fine : (lag : ℕ) (q : Request) → q .function ≡ 0x20 → eqb (q .command) 0x00 ≡ false → Moved l (i .history) other nothing (framed c i lag q .inner .history)
+  unfolding Fine initialises
+  beside-fine lag q f e = rw (shown-beside c q (sentChars mark (framed c i lag q .sent)) (rw f) (rw (f, e))) at (framed-fine c l i mark t sized lag q)
+
+module _ (c : Config) (l : Latest) (i : Inner) (mark : Mark) (t : Matches (i .history) l)
+    (sized : (g : ℕ) → AllSized (sizeOf (c .values) g) (heldIn (i .history .files) g)) where
+  -- the EXECUTE finds the history that the WRITE found
+  after-fine : (j : Inner) (lag : ℕ) (q : Request) → q .function ≡ 0x20 → q .command ≡ 0x31 → j .history ≡ i .history
+      → Moved l (i .history) other nothing (framed c j lag q .inner .history)
+  after-fine j lag q f k e =
+      subst (λ (h : History). Moved l h other nothing (framed c j lag q .inner .history)) e (beside-fine c l j mark (rw e t) (λ g. rw e (sized g)) lag q f (rw k))
+
+  judged-fine : (lag : ℕ) (s : List ℕ) → Moved l (i .history) (shownIn c s (heardOf s) (sentChars mark (judged c i lag s (heardOf s) .sent))) nothing (judged c i lag s (heardOf s) .inner .history)
+  unfolding Fine shownIn judged quiet requestIn
+  judged-fine lag s =
+      by-heard s (λ h. Moved l (i .history) (shownIn c s h (sentChars mark (judged c i lag s h .sent))) nothing (judged c i lag s h .inner .history))
+      (λ w. framed-fine c l i mark t sized lag (requestIn (frameIn s) s)) (still t refl)
+      (λ p. by-pair c i lag s _ _ p (λ m. Moved l (i .history) other nothing (m .inner .history))
+      (λ o m. after-fine _ lag _ (p .executes .0) (p .executes .1) (ap (λ (z : Inner). z .history) (m .inner)))
+      (λ e. beside-fine c l i mark t sized lag _ (p .writes .0) (rw (p .writes .1))))
+      (still t refl)
 
 -- ---- an event
 
@@ -336,6 +357,7 @@ module _ (c : Config) (l : Latest) (i : Inner) (mark : Mark) (t : Matches (i .hi
   unheard-fine s Broken = refl
   unheard-fine s Wrong = refl
   unheard-fine s (Whole f) = refl
+  unheard-fine s (Pair w x) = refl
 
   pub away-fine : (o : Outcome) (e : Event) → Moved l (i .history) (shownBy c e []) (storedBy e (i .core .clock) (Ended o)) (i .history)
   unfolding shownBy storedBy storedLocally wasKept
@@ -362,6 +384,6 @@ module _ (c : Config) (l : Latest) (i : Inner) (mark : Mark) (t : Matches (i .hi
 
     pub made-fine : (e : Event) → FineEvent c l i mark e (makeOf c i e)
     unfolding makeOf shownBy storedBy quiet sentChars elapsedMade
-    made-fine (stretch s) = judged-fine c l i mark t sized (s .lag) (s .chars) (heardOf (s .chars))
+    made-fine (stretch s) = judged-fine c l i mark t sized (s .lag) (s .chars)
     made-fine (elapsed ms) = still t refl
     made-fine (local e) = local-fine e

@@ -135,7 +135,7 @@ forming c =
 forming-lasts : (c : Config) → Lasts c (forming c)
 forming-lasts c =
     record {
-      heard = λ s g. tt;
+      heard = λ s q g e. tt;
       set-time = λ lag k q h. tt;
       clock-after = λ k ms h. tt;
       free = tt;

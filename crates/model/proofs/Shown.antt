@@ -31,7 +31,7 @@ use Rattle.model.specs.declared.Sending.{Sending}
 use Rattle.model.specs.declared.Sending.the-variants.{Normal, Nop, Rst, Unanswered}
 use Rattle.model.specs.declared.Master.{Master}
 use Rattle.model.specs.declared.Heard.{Heard}
-use Rattle.model.specs.declared.Heard.the-variants.{Broken, Wrong, Whole}
+use Rattle.model.specs.declared.Heard.the-variants.{Broken, Wrong, Whole, Pair}
 use Rattle.model.specs.declared.Mark.{Mark}
 use Rattle.model.specs.declared.Memory.{Memory}
 use Rattle.model.proofs.Conditions.{and-left}
@@ -112,6 +112,7 @@ module _ (c : Config) (x : Entry) (m : Master) (f : ℕ) (zs : List ℕ) (ps : L
   unfolding shownIn shownFor requestIn
   asked-for s Broken e k d = let z : _≡_ {A = ℕ} 0 1 = cc in absurd (omega arith)
   asked-for s Wrong e k d = let z : _≡_ {A = ℕ} 0 1 = cc in absurd (omega arith)
+  asked-for s (Pair w y) e k d = let z : _≡_ {A = ℕ} 0 1 = cc in absurd (omega arith)
   asked-for s (Whole h) e k d = go (eqb (getD (x .result .reply) 2 0) 0x04) (eqb (h .function) 0x04) (eqb (getD (x .result .reply) 2 0) 0x20 && initialises (requestIn h (s .chars))) refl refl d
     where
       go : (a b : Bool) (o : Bool) → eqb (getD (x .result .reply) 2 0) 0x04 ≡ a → eqb (h .function) 0x04 ≡ b

@@ -65,7 +65,7 @@ fitting-lasts : (c : Config) → Lasts c (fitting c)
 unfolding holdFits writeFits
 fitting-lasts c =
     record {
-      heard = λ s g. heard-fits (s .chars) g;
+      heard = λ s q g e. rw e (heard-fits (s .chars) g);
       set-time = setTime-fits;
       clock-after = λ k ms h. clockAfter-fits k ms;
       free = refl;

@@ -4,7 +4,7 @@ use mathlib.Core.Path.{_≡_, refl}
 use mathlib.Core.Logic.{_⊎_}
 use mathlib.Core.List.{List, [], _∷_, _++_}
 use mathlib.Core.Bool.{Bool, true, _&&_}
-use lib.ListN.{getD, take, set}
+use lib.ListN.{getD, take, drop, set}
 use lib.Dec.{ltb, lit<, lit≤}
 use borrow.Author.Tests.{ltb-true}
 use native.Mathlib.Omega.{arith}
@@ -13,7 +13,9 @@ use Rattle.chars.specs.Word.{Characters, word, wordAt}
 use Rattle.chars.specs.Gather.{gather, upFrom, every}
 use Rattle.checkword.specs.Check.{bitStep, bitSteps, charStep, checkFrom}
 use Rattle.checkword.proofs.Bursts.{one-character}
-use Rattle.model.specs.Frame.{unitOf, masterOf, whole, checked, frameIn, heardOf, requestIn, withCheck, frameChars, headChars, replyChars}
+use Rattle.model.specs.Limits.{writeFrame}
+use Rattle.model.specs.Sound.{WholePair}
+use Rattle.model.specs.Frame.{unitOf, masterOf, whole, checked, frameIn, commands, paired, heardOf, requestIn, withCheck, frameChars, headChars, replyChars}
 use Rattle.model.specs.Outcome.{damaged, replyFunction, answerNumber}
 use Rattle.model.specs.Config.{Config, has, within, noneIn, fileValid, validOf, hasFile, sizeOf}
 use Rattle.model.specs.State.{heldIn, storeIn, cutIn, freshCore, freshAreas, freshHistory, freshPort, freshOf}
@@ -31,12 +33,12 @@ use Rattle.model.specs.Port.{markNumber, portStatus, sentChars, markAfte
 use Rattle.model.specs.Run.{short, turnedAway, shows, moves, decided, resultOf, nextOf, Entry, entryOf, afterFrom, traceFrom, after, trace}
 use Rattle.model.specs.Formed.{AllGiven}
 use Rattle.model.specs.Line.{chunks, carried, shownFor, shownIn, shownBy, shown, latestAfter, releasedBy, latestFrom, releasedFrom, wasKept, storedLocally, storedBy, storedIn, latestIn, releasedIn}
-use Rattle.model.specs.Damage.{Good, Damaged, cut, changed}
-use Rattle.model.specs.Demand3.{heldBy, Unseen, Acknowledged}
+use Rattle.model.specs.Damage.{frame, pair, Good, Damaged, cut, changed}
+use Rattle.model.specs.Demand3.{heldBy, Unseen, Acknowledged, LeavesWrite}
 use Rattle.model.specs.declared.Outcome.the-variants.{NotWhole, CheckWrong}
 use Rattle.model.specs.declared.Answer.the-variants.{Ended}
 use Rattle.model.proofs.Conditions.{and-left, and-right}
-use Rattle.model.proofs.FrameLaws.{heard-whole}
+use Rattle.model.proofs.PairLaws.{heard-whole, heard-pair}
 use Rattle.model.proofs.Demand3.{demand-3}
 
 -- ---- the run
@@ -100,7 +102,7 @@ pub record Worked : Type 0 where
 pub worked : Worked
 unfolding
     unit numbers part word wordAt gather upFrom bitStep bitSteps charStep checkFrom
-    unitOf masterOf whole checked frameIn heardOf requestIn withCheck frameChars headChars replyChars
+    unitOf masterOf whole checked frameIn commands paired heardOf requestIn withCheck frameChars headChars replyChars
     damaged replyFunction has within every noneIn fileValid validOf hasFile sizeOf
     heldIn storeIn cutIn applied addedBy changedBy freshCore freshAreas freshHistory freshPort freshOf counts isOf breaks heldAfter dropped waitsAfter
     bcd clockFits timeOf clockAt clockAfter
@@ -136,13 +138,39 @@ by-small (b ∷ s) e (suc i) = by-small s (and-right (ltb b 256) (small s) e) i
 
 pub good-one : Good one
 unfolding part word wordAt bitStep bitSteps charStep checkFrom whole checked frameIn heardOf
-good-one = record { characters = by-small one refl; head = frameIn one; whole = heard-whole one (frameIn one) refl }
+good-one = record { characters = by-small one refl; carries = frame (heard-whole one (frameIn one) refl) }
 
 pub cut-one : Damaged (take 7 one)
-cut-one = cut {s = one} {n = 7} good-one (lit< tt)
+unfolding good-one
+cut-one = cut {s = one} {n = 7} good-one (lit< tt) (λ e. e)
 
 pub changed-one : Damaged (set one 3 0x60)
 changed-one = changed good-one (by-small (set one 3 0x60) refl) (one-character one 3 0x60 (lit< tt) (λ e. omega arith))
+
+-- a pair: master 1 writes two characters into ordinal 03. Cut before its seam or behind it, it is damage; at the seam a WRITE is left
+
+abbrev pub written : List ℕ
+written =
+    0xD2 ∷ 0x0C ∷ 0x20 ∷ 0x30 ∷ 0x03 ∷ 0x00 ∷ 0x00 ∷ 0x00 ∷ 0x03 ∷ 0xA4 ∷ 0xC3
+    ∷ 0xD2 ∷ 0x0C ∷ 0x20 ∷ 0x31 ∷ 0x02 ∷ 0x00 ∷ 0x07 ∷ 0x07 ∷ 0x78 ∷ 0x6B ∷ []
+
+whole-pair : WholePair written (frameIn (take writeFrame written)) (frameIn (drop writeFrame written))
+unfolding part word wordAt bitStep bitSteps charStep checkFrom whole checked frameIn commands paired heardOf
+whole-pair = heard-pair written _ _ refl
+
+pub good-pair : Good written
+good-pair = record { characters = by-small written refl; carries = pair whole-pair }
+
+pub cut-before : Damaged (take 10 written)
+unfolding good-pair
+cut-before = cut {s = written} {n = 10} good-pair (lit< tt) (λ e. omega arith)
+
+pub cut-behind : Damaged (take 12 written)
+unfolding good-pair
+cut-behind = cut {s = written} {n = 12} good-pair (lit< tt) (λ e. omega arith)
+
+pub cut-between : LeavesWrite unit [] (withRoom (take writeFrame written)) (frameIn (take writeFrame written))
+cut-between = demand-3 unit .seam [] (withRoom (take writeFrame written)) whole-pair refl
 
 -- ---- and the demand speaks of it
 

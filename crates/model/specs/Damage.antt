@@ -6,21 +6,30 @@ use mathlib.Core.List.{List, [], _∷_}
 use lib.ListN.{length, getD, take}
 use Rattle.chars.specs.Word.{Characters}
 use Rattle.checkword.specs.Line.{Burst}
+use Rattle.model.specs.Limits.{writeFrame}
 use Rattle.model.specs.Frame.{withCheck}
-use Rattle.model.specs.Sound.{WholeFrame}
+use Rattle.model.specs.Sound.{WholeFrame, WholePair}
 use Rattle.model.specs.Event.{Stretch, Event, stretch}
 use Rattle.model.specs.Run.{Entry}
 use Rattle.model.specs.declared.Frame.{Frame}
 
--- a whole frame with the right check characters, for this unit, for another or for all
+-- a whole frame with the right check characters, for this unit, for another or for all; or a pair of such (Request 5.5)
+pub data Carries (s : List ℕ) : Type 0 where
+  frame : {f : Frame} → WholeFrame s f → Carries s
+  pair : {w x : Frame} → WholePair s w x → Carries s
+
+-- of a pair just its WRITE is left, which is a good frame (Request 5.5)
+abbrev pub Seam : {s : List ℕ} → Carries s → ℕ → Type 0
+Seam (frame w) n = ⊥
+Seam (pair p) n = n ≡ writeFrame
+
 pub record Good (s : List ℕ) : Type 0 where
   pub characters : Characters s
-  pub head : Frame
-  pub whole : WholeFrame s head
+  pub carries : Carries s
 
--- a good frame without its last one or more characters; or as long, and other than it only in bits within sixteen places on the line
+-- it has lost its last one or more characters, but not at the seam; or is as long, and other only in bits within sixteen places on the line
 pub data Damaged : List ℕ → Type 0 where
-  cut : {s : List ℕ} {n : ℕ} → Good s → n < length s → Damaged (take n s)
+  cut : {s : List ℕ} {n : ℕ} (g : Good s) → n < length s → (Seam (g .carries) n → ⊥) → Damaged (take n s)
   changed : {s t : List ℕ} {k : ℕ} → Good s → Characters t → Burst s t k → Damaged t
 
 -- nothing was sent, or the last two characters sent are the check of those before them

@@ -1,18 +1,18 @@
 -- Frames: a stretch read as a request, a request written by the master's layout, a reply written round its data.
 use Prim.Native.Nat.{ℕ, _+_, _*_, _-_, _/_, _%_}
-use mathlib.Core.List.{List, [], _∷_, _++_}
-use mathlib.Core.Bool.{Bool, true, false, cond, _&&_}
-use lib.ListN.{length, getD, take}
+use mathlib.Core.List.{List, _∷_, _++_}
+use mathlib.Core.Bool.{Bool, cond, _&&_}
+use lib.ListN.{length, getD, take, drop}
 use lib.Dec.{leb, eqb}
 use Rattle.chars.specs.Put.{part}
 use Rattle.chars.specs.Word.{word, wordAt}
 use Rattle.checkword.specs.Check.{checkOf}
-use Rattle.model.specs.Limits.{shortestFrame, longestFrame}
+use Rattle.model.specs.Limits.{shortestFrame, longestFrame, writeFrame}
 use Rattle.model.specs.declared.Master.{Master}
 use Rattle.model.specs.declared.Frame.{Frame}
 use Rattle.model.specs.declared.Reply.{Reply}
 use Rattle.model.specs.declared.Heard.{Heard}
-use Rattle.model.specs.declared.Heard.the-variants.{Broken, Wrong, Whole}
+use Rattle.model.specs.declared.Heard.the-variants.{Broken, Wrong, Whole, Pair}
 
 -- what a master asks (Frames 1; paper 1.1)
 pub record Request : Type 0 where
@@ -47,9 +47,19 @@ checked s = eqb (wordAt s (length s - 2)) (checkOf (take (length s - 2) s))
 unfoldable pub frameIn : List ℕ → Frame
 frameIn s = record { address = wordAt s 0; function = getD s 2 0; command = getD s 3 0; count = wordAt s 4 }
 
--- length is judged before the check (Outcomes 1)
+-- a frame by itself, of function 20h with the command k
+unfoldable pub commands : ℕ → List ℕ → Bool
+commands k s = whole s && (checked s && (eqb (getD s 2 0) 0x20 && eqb (getD s 3 0) k))
+
+-- a WRITE and one EXECUTE with the same address word, each by itself whole and checked (Request 5.2)
+unfoldable pub paired : List ℕ → Bool
+paired s = commands 0x30 (take writeFrame s) && (commands 0x31 (drop writeFrame s) && eqb (wordAt s 0) (wordAt s writeFrame))
+
+-- length is judged before the check; only what is no whole frame can be a pair (Outcomes 1; Request 5.6)
 unfoldable pub heardOf : List ℕ → Heard
-heardOf s = cond (whole s) (cond (checked s) (Whole (frameIn s)) Wrong) Broken
+heardOf s =
+    cond (whole s) (cond (checked s) (Whole (frameIn s)) Wrong)
+    (cond (paired s) (Pair (frameIn (take writeFrame s)) (frameIn (drop writeFrame s))) Broken)
 
 -- a head and its data
 abbrev pub asked : Frame → List ℕ → Request

@@ -8,6 +8,13 @@ shortestFrame = 8
 abbrev pub longestFrame : ℕ
 longestFrame = 136
 
+-- a WRITE has three characters of data; before the longest frame it makes the longest stretch that is not damage (Request 5.2)
+abbrev pub writeFrame : ℕ
+writeFrame = shortestFrame + 3
+
+abbrev pub longestStretch : ℕ
+longestStretch = writeFrame + longestFrame
+
 -- a frame has at most 128 characters of data: the longest without the eight of the shortest (Frames 1)
 abbrev pub mostAsked : ℕ
 mostAsked = longestFrame - shortestFrame

@@ -2,9 +2,11 @@
 use Prim.Native.Nat.{ℕ, _+_}
 use mathlib.Core.List.{List, []}
 use mathlib.Core.Bool.{Bool, true, false, cond, _&&_}
+use lib.ListN.{take, drop}
 use lib.Dec.{eqb}
+use Rattle.model.specs.Limits.{writeFrame}
 use Rattle.model.specs.Frame.{Request, unitOf, masterOf, broadcastUnit, heardOf, requestIn}
-use Rattle.model.specs.Outcome.{numberOf, sendingOf, replyFunction}
+use Rattle.model.specs.Outcome.{numberOf, sendingOf, replyFunction, answerNumber}
 use Rattle.model.specs.Config.{Config}
 use Rattle.model.specs.Event.{Local, setWord, setValue, pulses, store, Event, stretch, elapsed, local}
 use Rattle.model.specs.State.{Areas, Inner}
@@ -38,7 +40,7 @@ use Rattle.model.specs.declared.Answer.the-variants.{Ended, Storing}
 use Rattle.model.specs.declared.Action.{Action}
 use Rattle.model.specs.declared.Action.the-variants.{Rest}
 use Rattle.model.specs.declared.Heard.{Heard}
-use Rattle.model.specs.declared.Heard.the-variants.{Broken, Wrong, Whole}
+use Rattle.model.specs.declared.Heard.the-variants.{Broken, Wrong, Whole, Pair}
 use Rattle.model.specs.declared.Clock.{Clock}
 use Rattle.model.specs.declared.Hold.{Hold}
 use Rattle.model.specs.declared.Hold.the-variants.{Free}
@@ -267,11 +269,16 @@ framed c i lag q =
     (cond (eqb (unitOf (q .address)) broadcastUnit) (broadcastMade i (broadcastOf c (i .core) (i .areas) lag q))
     (quiet (Ended OtherUnit) i))
 
--- damage changes nothing here (rows 1, 2)
+-- an EXECUTE that came with its WRITE, of which m was made: it is judged where the WRITE was taken, and else m is the one answer (Request 5.2, 5.4)
+unfoldable pub followed : Config → ℕ → Request → Made → Made
+followed c lag x m = cond (eqb (answerNumber (m .answer)) 5) (framed c (m .inner) lag x) m
+
+-- damage changes nothing here; a pair is its WRITE, and its EXECUTE after it (rows 1, 2; Request 5.2, 5.3)
 unfoldable pub judged : Config → Inner → ℕ → List ℕ → Heard → Made
 judged c i lag s Broken = quiet (Ended NotWhole) i
 judged c i lag s Wrong = quiet (Ended CheckWrong) i
 judged c i lag s (Whole f) = framed c i lag (requestIn f s)
+judged c i lag s (Pair w x) = followed c lag (requestIn x (drop writeFrame s)) (framed c i lag (requestIn w (take writeFrame s)))
 
 -- ---- time and the local events
 

@@ -2,6 +2,8 @@
 use Rattle.model.specs.Limits.{
   shortestFrame,
   longestFrame,
+  writeFrame,
+  longestStretch,
   replyHead,
   mostData,
   longestReply,
@@ -19,6 +21,8 @@ limitsTold =
     record {
       shortest = shortestFrame;
       longest = longestFrame;
+      write = writeFrame;
+      stretch = longestStretch;
       head = replyHead;
       most = mostData;
       reply = longestReply;

@@ -48,6 +48,12 @@ impl Frame {
 
     pub const LONGEST: usize = 136;
 
+    // A WRITE, with its three characters of data.
+    pub const WRITE: usize = 11;
+
+    // The longest stretch that is not damage: a WRITE and the longest frame.
+    pub const STRETCH: usize = 147;
+
     pub fn new(address: u16, function: u8, command: u8, count: u8) -> Frame
         ensures { λ r. ⌜ r ≡ record { address = address; function = function; command = command; count = count } ⌝ }
     {
@@ -60,11 +66,12 @@ impl Frame {
     }
 }
 
-// A stretch as it was heard: no whole frame, wrong check characters, or a frame.
+// A stretch as it was heard: no whole frame, wrong check characters, a frame, or the frames of a WRITE and of its EXECUTE.
 pub enum Heard {
     Broken,
     Wrong,
     Whole(Frame),
+    Pair(Frame, Frame),
 }
 
 // The head of a reply, with how many characters of data follow.
@@ -301,6 +308,8 @@ impl Port {
 pub struct Limits {
     pub shortest: usize,
     pub longest: usize,
+    pub write: usize,
+    pub stretch: usize,
     pub head: usize,
     pub most: u16,
     pub reply: usize,
@@ -318,6 +327,8 @@ pub fn limits_told() -> Limits
     Limits {
         shortest: Frame::SHORTEST,
         longest: Frame::LONGEST,
+        write: Frame::WRITE,
+        stretch: Frame::STRETCH,
         head: Reply::HEAD,
         most: Reply::DATA,
         reply: Reply::LONGEST,

@@ -9,4 +9,6 @@ pub mod StepLaws
 pub mod TellingLaws
 pub mod ServedLaws
 pub mod StretchLaws
+pub mod AheadLaws
+pub mod PairedLaws
 pub mod Unique

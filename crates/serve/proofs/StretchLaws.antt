@@ -25,7 +25,6 @@ use Rattle.model.specs.declared.Heard.the-variants.{Broken, Wrong, Whole}
 use Rattle.model.specs.declared.Mark.{Mark}
 use Rattle.model.specs.declared.Port.{Port}
 use Rattle.model.proofs.Conditions.{false-true, by-bool}
-use Rattle.model.proofs.FrameLaws.{heard-whole}
 use Rattle.layout.specs.Numbers.{portIn, putPort, Written}
 use Rattle.layout.proofs.NumbersLaws.{written-readable}
 use Rattle.layout.proofs.PlaceLaws.{port-written}
@@ -47,8 +46,12 @@ use Rattle.serve.specs.Stretch.{coming, Turns, StretchPromise}
 
 -- ---- a stretch that a working unit hears
 
-frame-data : (s : List ℕ) (f : Frame) {body : List ℕ} → heardOf s ≡ Whole f → body ≡ part s 6 (length s - 8) → body ≡ part s 6 (f .count)
-frame-data s f h b = let n : length s - 8 ≡ f .count = omega (arith, heard-whole s f h .count) in b ∙ ap (part s 6) n
+frame-data : (s : List ℕ) (f : Frame) {body : List ℕ} → length s ≡ shortestFrame + f .count → body ≡ part s 6 (length s - 8) → body ≡ part s 6 (f .count)
+frame-data s f h b = let n : length s - 8 ≡ f .count = omega arith in b ∙ ap (part s 6) n
+
+pub request-as : (s : List ℕ) (f : Frame) {body : List ℕ} → length s ≡ shortestFrame + f .count → body ≡ part s 6 (length s - 8) → requestIn f s ≡ asked f body
+unfolding requestIn
+request-as s f h b = ap (asked f) (sym (frame-data s f h b))
 
 module _ (c : Config) (i : Inner) (lag : ℕ) (s : List ℕ) (mark : Mark) (p : Port) {area held entry : List ℕ} {x : MadeOf} where
   module _ {ks : List ℕ} (k : Written (i .core) (i .history .memory) p ks) where
@@ -62,31 +65,37 @@ module _ (c : Config) (i : Inner) (lag : ℕ) (s : List ℕ) (mark : Mark) (p : 
     unfolding judged quiet
     judged-wrong h e = rw h (record { makes = makes-quiet i mark entry CheckWrong e k; changed = still c area held })
 
-  module _ (f : Frame) {body : List ℕ} {to : ℕ} (h : heardOf s ≡ Whole f) (b : body ≡ part s 6 (length s - 8)) (u : to ≡ unitOf (f .address)) where
+  -- one frame
+  pub judged-frame : (f : Frame) {a : Areas} {fs : Files} {q : Port} {ls area′ held′ exit : List ℕ} → heardOf s ≡ Whole f
+      → MadeInPromise c (framed c i lag (requestIn f s)) mark a fs q ls area held area′ held′ entry exit x
+      → MadeInPromise c (judged c i lag s (heardOf s)) mark a fs q ls area held area′ held′ entry exit x
+  unfolding judged
+  judged-frame f h w = rw h w
+
+  module _ (f : Frame) {body : List ℕ} {to : ℕ} (n : length s ≡ shortestFrame + f .count) (b : body ≡ part s 6 (length s - 8)) (u : to ≡ unitOf (f .address)) where
     -- for this unit
-    pub judged-own : {a : Areas} {fs : Files} {ls area′ held′ exit : List ℕ} → to ≡ c .unit
+    pub framed-own : {a : Areas} {fs : Files} {ls area′ held′ exit : List ℕ} → to ≡ c .unit
         → MadeInPromise c (served c i lag (asked f body)) mark a fs (portHeardBy p (shortestFrame + f .count) (x .outcome)) ls area held area′ held′ entry exit x
-        → MadeInPromise c (judged c i lag s (heardOf s)) mark a fs (portHeard p s (x .outcome)) ls area held area′ held′ entry exit x
-    unfolding judged framed requestIn
-    judged-own t w =
-        rw (h, eq-eqb (unitOf (f .address)) (c .unit) (sym u ∙ t), ← frame-data s f h b, ← (heard-as p s (x .outcome)), heard-whole s f h .count) w
+        → MadeInPromise c (framed c i lag (requestIn f s)) mark a fs (portHeard p s (x .outcome)) ls area held area′ held′ entry exit x
+    unfolding framed requestIn
+    framed-own t w = rw (eq-eqb (unitOf (f .address)) (c .unit) (sym u ∙ t), ← frame-data s f n b, ← (heard-as p s (x .outcome)), n) w
 
     -- for all
-    pub judged-all : {a : Areas} {fs : Files} {ls : List ℕ} → (to ≡ c .unit → ⊥) → to ≡ 0x7FF
+    pub framed-all : {a : Areas} {fs : Files} {ls : List ℕ} → (to ≡ c .unit → ⊥) → to ≡ 0x7FF
         → MadePromise (broadcastMade i (broadcastOf c (i .core) (i .areas) lag (asked f body))) mark a fs p ls entry entry x
-        → MadeInPromise c (judged c i lag s (heardOf s)) mark a fs p ls area held area held entry entry x
-    unfolding judged framed requestIn broadcastMade quiet
-    judged-all n t w =
-        rw (h, ne-eqb (unitOf (f .address)) (c .unit) (λ e. n (u ∙ e)), eq-eqb (unitOf (f .address)) broadcastUnit (sym u ∙ t), ← frame-data s f h b)
+        → MadeInPromise c (framed c i lag (requestIn f s)) mark a fs p ls area held area held entry entry x
+    unfolding framed requestIn broadcastMade quiet
+    framed-all k t w =
+        rw (ne-eqb (unitOf (f .address)) (c .unit) (λ e. k (u ∙ e)), eq-eqb (unitOf (f .address)) broadcastUnit (sym u ∙ t), ← frame-data s f n b)
         (record { makes = w; changed = still c area held })
 
     -- for another
-    pub judged-other : {ks : List ℕ} → Written (i .core) (i .history .memory) p ks → (to ≡ c .unit → ⊥) → (to ≡ 0x7FF → ⊥)
+    pub framed-other : {ks : List ℕ} → Written (i .core) (i .history .memory) p ks → (to ≡ c .unit → ⊥) → (to ≡ 0x7FF → ⊥)
         → x ≡ record { outcome = OtherUnit; action = Rest; sent = 0 }
-        → MadeInPromise c (judged c i lag s (heardOf s)) mark (i .areas) (i .history .files) p ks area held area held entry entry x
-    unfolding judged framed requestIn quiet
-    judged-other k n m e =
-        rw (h, ne-eqb (unitOf (f .address)) (c .unit) (λ e. n (u ∙ e)), ne-eqb (unitOf (f .address)) broadcastUnit (λ e. m (u ∙ e)))
+        → MadeInPromise c (framed c i lag (requestIn f s)) mark (i .areas) (i .history .files) p ks area held area held entry entry x
+    unfolding framed requestIn quiet
+    framed-other k l m e =
+        rw (ne-eqb (unitOf (f .address)) (c .unit) (λ e. l (u ∙ e)), ne-eqb (unitOf (f .address)) broadcastUnit (λ e. m (u ∙ e)))
         (record { makes = makes-quiet i mark entry OtherUnit e k; changed = still c area held })
 
 -- ---- the entry

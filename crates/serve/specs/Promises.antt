@@ -8,17 +8,21 @@ use lib.ListN.{length}
 use lib.Dec.{eqb}
 use Rattle.chars.specs.Put.{put}
 use Rattle.model.specs.Limits.{replyHead, mostData, longestReply}
-use Rattle.model.specs.Frame.{Request, heardOf}
-use Rattle.model.specs.Outcome.{numberOf, sendingOf}
+use Rattle.model.specs.Frame.{Request, heardOf, requestIn}
+use Rattle.model.specs.Outcome.{numberOf, sendingOf, answerNumber}
 use Rattle.model.specs.Config.{Config, within, validOf}
+use Rattle.model.specs.Clock.{clockFits}
 use Rattle.model.specs.Fits.{historyFits}
 use Rattle.model.specs.State.{Areas, Files}
 use Rattle.model.specs.Change.{applied}
-use Rattle.model.specs.Step.{Step as StepOf, Stepped, alone, returnOf, internalStep, stepOf, Made, answered, broadcastOf, broadcastMade, served, judged}
+use Rattle.model.specs.Step.{Step as StepOf, Stepped, alone, returnOf, internalStep, stepOf, Made, answered, broadcastOf, broadcastMade, served, framed, judged}
 use Rattle.model.specs.Port.{sentChars, portHeard}
 use Rattle.model.specs.declared.Outcome.{Outcome}
+use Rattle.model.specs.declared.Outcome.the-variants.{WriteTaken}
+use Rattle.model.specs.declared.Action.the-variants.{Rest}
 use Rattle.model.specs.declared.Answer.the-variants.{Ended}
 use Rattle.model.specs.declared.Core.{Core}
+use Rattle.model.specs.declared.Frame.{Frame}
 use Rattle.model.specs.declared.Mark.{Mark}
 use Rattle.model.specs.declared.Memory.{Memory}
 use Rattle.model.specs.declared.Port.{Port}
@@ -26,7 +30,7 @@ use Rattle.layout.specs.Numbers.{coreIn, memoryIn, portIn, readable, Written}
 use Rattle.layout.specs.Unit.{unitIn, configIn, numbersIn, NumbersOnly}
 use Rattle.layout.specs.Records.{filesIn, roomOf}
 use Rattle.port.specs.Heard.{portHeardBy}
-use Rattle.layout.specs.Kept.{areasIn, filesHeld, innerBy, innerIn, Owned, Steady}
+use Rattle.layout.specs.Kept.{areasIn, filesHeld, innerBy, innerIn, Owned, ownedOf, Steady}
 use Rattle.serve.specs.Changes.{Shifted}
 use Rattle.serve.specs.declared.step.Step.{Step}
 use Rattle.serve.specs.declared.Made.{Made as MadeOf}
@@ -47,6 +51,12 @@ pub record Ready (u area : List ℕ) : Type 0 where
   pub valid : validOf (configIn u) ≡ true
   pub fits : historyFits (configIn u) (record { memory = memoryIn (numbersIn u); files = filesHeld u area }) ≡ true
   pub room : roomOf (configIn u) ≤ length area
+
+-- the same with numbers that mean something, and a clock in range
+pub record Working (u area : List ℕ) : Type 0 where
+  pub ready : Ready u area
+  pub numbers : readable (numbersIn u) ≡ true
+  pub clock : clockFits (coreIn (numbersIn u) .clock) ≡ true
 
 -- a refused control request leaves the select, but for 11 and 12 (Select 4, 5)
 abbrev pub leaves : Outcome → Bool
@@ -129,6 +139,20 @@ abbrev pub ServedPromise : ℕ → Request → ℕ → Owned → Owned → List 
 ServedPromise lag q n x y entry exit r =
     OwnedPromise (served (configIn (x .unit)) (innerIn (x .unit) (x .block) (x .area)) lag q)
     (portHeardBy (portIn (numbersIn (x .unit))) n (r .outcome)) x y entry exit r
+
+-- a frame with the head f that a working unit hears as s, a stretch or a part of one
+abbrev pub FramedPromise : ℕ → Frame → List ℕ → Owned → Owned → List ℕ → List ℕ → MadeOf → Type 0
+FramedPromise lag f s x y entry exit r =
+    OwnedPromise (framed (configIn (x .unit)) (innerIn (x .unit) (x .block) (x .area)) lag (requestIn f s))
+    (portHeard (portIn (numbersIn (x .unit))) s (r .outcome)) x y entry exit r
+
+-- the WRITE with the head f, heard as s, ahead of the EXECUTE that came with it: taken, it leaves what that frame leaves, for any reply's buffer;
+-- else nothing is written, and 5 is not what becomes of it (Request 5.2, 5.4)
+pub record AheadPromise (f : Frame) (s u v : List ℕ) (r : Bool) : Type 0 where
+  pub taken : r ≡ true → (lag : ℕ) (block area entry : List ℕ) → longestReply ≤ length entry
+      → FramedPromise lag f s (ownedOf u block area) (ownedOf v block area) entry entry (record { outcome = WriteTaken; action = Rest; sent = 0 })
+  pub same : r ≡ false → v ≡ u
+  pub refused : r ≡ false → (lag : ℕ) (block area : List ℕ) → eqb (answerNumber (framed (configIn u) (innerIn u block area) lag (requestIn f s) .answer)) 5 ≡ false
 
 -- any stretch that a working unit hears
 abbrev pub JudgedPromise : ℕ → List ℕ → Owned → Owned → List ℕ → List ℕ → MadeOf → Type 0

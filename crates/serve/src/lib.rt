@@ -1,4 +1,5 @@
 // A stretch: the order of outcomes, one dispatch over the functions, one ending for every frame.
+mod ahead;
 mod broadcast;
 mod commands;
 mod dispatch;

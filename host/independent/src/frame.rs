@@ -54,6 +54,44 @@ impl<'a> Frame<'a> {
     }
 }
 
+/// What a stretch holds: one frame, or a WRITE and its EXECUTE with no idle mark between.
+#[derive(Clone, Copy, Debug, PartialEq, Eq)]
+pub struct Stretch<'a> {
+    /// The WRITE that came in front of the frame.
+    pub write: Option<Frame<'a>>,
+    /// The only frame, or the EXECUTE.
+    pub frame: Frame<'a>,
+}
+
+impl<'a> Stretch<'a> {
+    /// A WRITE: three data characters.
+    const WRITE: usize = Frame::SHORTEST + 3;
+    /// A WRITE and the longest EXECUTE.
+    pub const LONGEST: usize = Self::WRITE + Frame::LONGEST;
+
+    /// Reads a stretch, or gives outcome 1 or 2 as for a single frame.
+    pub fn read(bytes: &'a [u8]) -> Result<Self, u8> {
+        match Self::read_pair(bytes) {
+            Some(pair) => Ok(pair),
+            None => Frame::read(bytes).map(|frame| Stretch { write: None, frame }),
+        }
+    }
+
+    /// Both frames whole and checked, from one master to one unit, and nothing behind.
+    fn read_pair(bytes: &'a [u8]) -> Option<Self> {
+        let (front, rest) = bytes.split_at_checked(Self::WRITE)?;
+        let write = Frame::read(front).ok()?;
+        let frame = Frame::read(rest).ok()?;
+        let pair = (write.function, write.command) == (0x20, 0x30)
+            && (frame.function, frame.command) == (0x20, 0x31)
+            && write.address == frame.address;
+        pair.then_some(Stretch {
+            write: Some(write),
+            frame,
+        })
+    }
+}
+
 /// The master (high 5 bits) and the unit (low 11 bits) of an address word.
 pub fn split_address(word: u16) -> (u8, u16) {
     ((word >> 11) as u8, word & 0x7FF)

@@ -27,7 +27,7 @@ pub use check::check_word;
 pub use clock::Clock;
 pub use config::{Calculation, Config, Input, InputKind, Output};
 pub use control::{Action, Select};
-pub use frame::{Frame, Reply};
+pub use frame::{Frame, Reply, Stretch};
 pub use history::HistoryReply;
 pub use state::{fits, State};
 pub use unit::{elapsed, pulses, set_value, set_word, store, stretch, Answer};

@@ -2,7 +2,7 @@
 
 use crate::config::{Calculation, Config, Input};
 use crate::control::Action;
-use crate::frame::{reply_function, Frame, Reply, BROADCAST};
+use crate::frame::{reply_function, Frame, Reply, Stretch, BROADCAST};
 use crate::outcome::{self, Sent};
 use crate::state::{fits, State};
 use crate::{block, clock, control, history, port, scan};
@@ -49,16 +49,16 @@ pub fn stretch(
         return Answer::silent(outcome::LENGTH);
     }
     port::heard(state);
-    match Frame::read(bytes) {
+    match Stretch::read(bytes) {
         Err(refused) => {
             port::damaged(state);
             Answer::silent(refused)
         }
-        Ok(frame) if frame.unit == BROADCAST => {
-            Answer::silent(broadcast(config, state, &frame, lag))
+        Ok(heard) if heard.frame.unit == BROADCAST => {
+            Answer::silent(broadcast(config, state, &heard.frame, lag))
         }
-        Ok(frame) if frame.unit != config.unit => Answer::silent(outcome::OTHER_UNIT),
-        Ok(frame) => answer(config, state, params, buffer, &frame, lag),
+        Ok(heard) if heard.frame.unit != config.unit => Answer::silent(outcome::OTHER_UNIT),
+        Ok(heard) => answer(config, state, params, buffer, &heard, lag),
     }
 }
 
@@ -76,31 +76,49 @@ fn broadcast(config: &Config, state: &mut State, frame: &Frame, lag: u32) -> u8 
     }
 }
 
-/// A frame to this unit: serves it and builds the reply, status as the frame found it.
+/// A stretch for this unit: serves it and builds the reply, status as the stretch found it.
 fn answer(
     config: &Config,
     state: &mut State,
     params: &mut [u8],
     buffer: &mut [u8],
-    frame: &Frame,
+    heard: &Stretch,
     lag: u32,
 ) -> Answer {
     let (status, port_status) = (state.status(), port::status(state));
     let mut reply = Reply::new(buffer);
-    let (outcome, action) = serve(config, state, params, frame, &mut reply, lag);
+    let (outcome, action) = serve_both(config, state, params, heard, &mut reply, lag);
     let form = outcome::sent(outcome);
     if form == Sent::Nothing {
         return Answer::silent(outcome);
     }
     state.bit2 = false;
     port::answered(state);
-    let function = reply_function(frame.function, form);
-    let sent = reply.finish(frame.address, function, status, port_status);
+    let function = reply_function(heard.frame.function, form);
+    let sent = reply.finish(heard.frame.address, function, status, port_status);
     Answer {
         outcome,
         action,
         sent,
     }
+}
+
+/// Serves a WRITE that came in front, then the frame; a refused WRITE is the one answer.
+fn serve_both(
+    config: &Config,
+    state: &mut State,
+    params: &mut [u8],
+    heard: &Stretch,
+    reply: &mut Reply,
+    lag: u32,
+) -> (u8, Option<Action>) {
+    if let Some(write) = &heard.write {
+        let (outcome, _) = serve(config, state, params, write, reply, lag);
+        if outcome != outcome::WRITE_TAKEN {
+            return (outcome, None);
+        }
+    }
+    serve(config, state, params, &heard.frame, reply, lag)
 }
 
 /// Carries out a frame to this unit; every such frame drops its master's waiting write.

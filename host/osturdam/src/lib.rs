@@ -49,6 +49,8 @@ mod header {
 
 /// The longest frame of a master.
 pub const FRAME: usize = header::FRAME as usize;
+/// The longest stretch that is not damage: a WRITE and its EXECUTE.
+pub const STRETCH: usize = header::STRETCH as usize;
 /// The longest reply, and the shortest buffer that a stretch is served with.
 pub const REPLY: usize = header::REPLY as usize;
 /// The longest parameter block.

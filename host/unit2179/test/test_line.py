@@ -9,6 +9,8 @@ from live import A, B, SAMPLE, UNIT, LiveTest, frame, ms_of, until
 POLL = frame(A, UNIT, 0x00, 0x41)
 SET_TIME = frame(A, UNIT, 0x20, 0x38, bytes([0x03, 0x66, 0x23, 0x59, 0x58, 0x03, 0xE7]))
 OTHER_SET_TIME = frame(A, 77, 0x20, 0x38, bytes([0x03, 0x66, 0x23, 0x59, 0x58, 0x03, 0xE7]))
+WRITE, EXECUTE = frame(A, UNIT, 0x20, 0x30, bytes([0, 0, 3])), frame(A, UNIT, 0x20, 0x31, b'ab')
+READ = frame(A, UNIT, 0x28, 0x30, bytes([0, 0, 3, 2]))
 FINE, DAMAGED = 0x54, 0x56
 
 
@@ -56,7 +58,28 @@ class Stretches(LiveTest):
         self.assertEqual(self.heard(unit, wire, longest), (longest, 14))
         self.assertEqual(wire.receive(2).function, 0xA0)
         self.assertEqual(self.heard(unit, wire, longest + b'\0'), (longest + b'\0', 1))
-        self.assertEqual(self.heard(unit, wire, longest * 3), ((longest * 3)[:137], 1))
+        self.assertEqual(self.heard(unit, wire, longest * 3), ((longest * 3)[:148], 1))
+
+    def test_a_write_and_its_execute_with_no_gap_are_one_request(self):
+        unit, wire = self.begin()
+        reply = wire.ask(WRITE + EXECUTE)
+        self.assertEqual((reply.function, reply.port), (0x20, FINE))
+        self.assertEqual([line[1:3] for line in unit.log('R')], [[(WRITE + EXECUTE).hex().upper(), '0']])
+        self.assertEqual(wire.ask(READ).data, b'ab')
+        longest = WRITE + frame(A, UNIT, 0x20, 0x31, bytes(128))
+        self.assertEqual(self.heard(unit, wire, longest), (longest, 0))
+        self.assertEqual(wire.receive(2).function, 0x20)
+        self.assertEqual(self.heard(unit, wire, longest + b'\0'), (longest + b'\0', 1))
+
+    def test_a_pair_that_lost_characters_is_damage_but_at_its_seam(self):
+        unit, wire = self.begin()
+        for left in (10, 12, len(WRITE + EXECUTE) - 1):
+            self.assertEqual(self.heard(unit, wire, (WRITE + EXECUTE)[:left])[1], 1)
+            refused = wire.ask(EXECUTE)
+            self.assertEqual((refused.function, refused.port), (0xA0, DAMAGED))
+        self.assertEqual(self.heard(unit, wire, WRITE), (WRITE, 5))
+        self.assertEqual(wire.ask(EXECUTE).function, 0x20)
+        self.assertEqual(wire.ask(READ).data, b'ab')
 
     def test_a_set_time_may_suspend_behind_its_header(self):
         unit, wire = self.begin('30', '--suspension', '5000')

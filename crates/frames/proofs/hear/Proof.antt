@@ -1,87 +1,80 @@
 -- `frames::hear` meets its contract, a return for each way in which a stretch is heard.
 -- Assumes nothing.
-use mathlib.Core.Path.{sym, ap, _∙_}
-use native.Mathlib.Omega.{arith}
+use mathlib.Core.Path.{sym, ap, ap₂, _∙_}
 use lib.Seq.{length-take-le}
+use Rattle.model.specs.declared.Heard.the-variants.{Whole, Pair}
+use Rattle.frames.proofs.HearLaws.{rest, heard-frame, heard-wrong, heard-two, heard-none, pair-parts, pair-long}
 use borrow.Author.Needs.{needs}
-use Rattle.model.specs.declared.Heard.the-variants.{Whole}
-use Rattle.model.proofs.FrameLaws.{short-broken, long-broken, count-broken, check-wrong, check-right}
-use Rattle.frames.proofs.DataLaws.{head-in}
 use Rattle.frames.proofs.hear.Statement.{statement}
 use Rattle.frames.proofs.hear.Tie as tie
+use Rattle.frames.proofs.hear.Reads as reads
+use Rattle.frames.proofs.hear.Lts as lts
+use Rattle.frames.proofs.head_in.Reads as head-in-reads
+use Rattle.frames.proofs.is_checked.Reads as is-checked-reads
+use Rattle.frames.proofs.is_pair.Reads as is-pair-reads
+use Rattle.frames.proofs.is_whole.Reads as is-whole-reads
+
+is-whole-requires : tie.Need-is-whole-requires
+is-whole-requires c κs = search needs
+
+is-checked-requires : tie.Need-is-checked-requires
+is-checked-requires c κs = sym (c .before .is-whole .ensures) ∙ c .if1 .taken
+
+head-in-requires : tie.Need-head-in-requires
+head-in-requires c κs = sym (c .before .before .before .is-whole .ensures) ∙ c .before .before .if1 .taken
 
 returns : tie.Need-returns
-returns c = sym (short-broken _ (omega arith))
+returns c = ap Whole (c .head-in .ensures) ∙ sym (heard-frame _ (sym (c .before .before .before .before .is-whole .ensures) ∙ c .before .before .before .if1 .taken) (sym (c .before .before .is-checked .ensures) ∙ c .before .if2 .taken))
 
 returns-2 : tie.Need-returns-2
-returns-2 c = sym (long-broken _ (omega arith) (omega arith))
+returns-2 c = sym (heard-wrong _ (sym (c .before .before .before .is-whole .ensures) ∙ c .before .before .if1 .taken) (sym (c .before .is-checked .ensures) ∙ c .if2 .left))
 
-word-at-requires : tie.Need-word-at-requires
-word-at-requires c κs = search needs
+is-pair-requires : tie.Need-is-pair-requires
+is-pair-requires c κs = search needs
 
-cast-if3 : tie.Need-cast-if3
-cast-if3 c = search needs
+slice-aggregate-head-in : tie.Need-slice-aggregate-head-in
+slice-aggregate-head-in c = let s = c .before .before .before .before .before .before .args .stretch .now in sym (length-take-le 11 s (pair-long s (sym (c .before .before .is-pair .ensures) ∙ c .before .if3 .taken)))
+
+head-in-requires-2 : tie.Need-head-in-requires-2
+head-in-requires-2 c κs = pair-parts _ (sym (c .before .before .is-pair .ensures) ∙ c .before .if3 .taken) .0
+
+sub-head-in : tie.Need-sub-head-in
+sub-head-in c = pair-long _ (sym (c .before .before .before .is-pair .ensures) ∙ c .before .before .if3 .taken)
+
+part-head-in-start : tie.Need-part-head-in-start
+part-head-in-start c = pair-long _ (sym (c .before .before .before .is-pair .ensures) ∙ c .before .before .if3 .taken)
+
+part-head-in-end : tie.Need-part-head-in-end
+part-head-in-end c = search needs
+
+head-in-requires-3 : tie.Need-head-in-requires-3
+head-in-requires-3 c κs = rw rest (pair-parts _ (sym (c .before .before .before .before .is-pair .ensures) ∙ c .before .before .before .if3 .taken) .1)
 
 returns-3 : tie.Need-returns-3
-returns-3 c = sym (count-broken _ (omega arith) (omega arith) (λ e. omega arith))
-
-sub-end : tie.Need-sub-end
-sub-end c = search needs
-
-word-at-requires-2 : tie.Need-word-at-requires-2
-word-at-requires-2 c κs = search needs
-
-slice-aggregate-check-word : tie.Need-slice-aggregate-check-word
-slice-aggregate-check-word c = sym (length-take-le _ _ (omega arith))
-
-check-word-requires : tie.Need-check-word-requires
-check-word-requires c κs = search needs
+returns-3 c =
+    ap₂ Pair (c .before .before .head-in2 .ensures) (rw rest at (c .head-in3 .ensures))
+    ∙ sym
+    (heard-two _ (sym (c .before .before .before .before .before .before .before .is-whole .ensures) ∙ c .before .before .before .before .before .before .if1 .left)
+    (sym (c .before .before .before .before .before .is-pair .ensures) ∙ c .before .before .before .before .if3 .taken))
 
 returns-4 : tie.Need-returns-4
-returns-4 c =
-    sym
-    (check-wrong _ (omega arith) (omega arith) (omega arith)
-    (λ e. c .if4 .taken (c .before .before .before .word-at2 .ensures ∙ e ∙ sym (c .before .check-word .ensures))))
-
-word-at-requires-3 : tie.Need-word-at-requires-3
-word-at-requires-3 c κs = search needs
-
-shared-slice-read-new : tie.Need-shared-slice-read-new
-shared-slice-read-new c = search needs
-
-shared-slice-read-new-2 : tie.Need-shared-slice-read-new-2
-shared-slice-read-new-2 c = search needs
-
-cast-new : tie.Need-cast-new
-cast-new c = search needs
-
-new-requires : tie.Need-new-requires
-new-requires c κs = search needs
-
-returns-5 : tie.Need-returns-5
-returns-5 c =
-    let s = c .before .before .before .before .before .before .before .before .before .before .before .before .before .args .stretch .now in
-    let check = sym (c .before .before .before .before .before .before .before .word-at2 .ensures) ∙ c .before .before .before .before .if4 .left ∙ c .before .before .before .before .before .check-word .ensures in
-    ap Whole (head-in s _ _ _ (c .new .ensures) (c .before .before .before .word-at3 .ensures) (c .before .before .before .before .before .before .before .before .before .word-at .ensures))
-    ∙ sym (check-right s (omega arith) (omega arith) (omega arith) check)
+returns-4 c = sym (heard-none _ (sym (c .before .before .before .is-whole .ensures) ∙ c .before .before .if1 .left) (sym (c .before .is-pair .ensures) ∙ c .if3 .left))
 
 pub hear-spec : {M : Type 1} → statement M
 hear-spec =
     tie.close
     (tie.spec
+    is-whole-requires
+    is-checked-requires
+    head-in-requires
     returns
     returns-2
-    word-at-requires
-    cast-if3
+    is-pair-requires
+    slice-aggregate-head-in
+    head-in-requires-2
+    sub-head-in
+    part-head-in-start
+    part-head-in-end
+    head-in-requires-3
     returns-3
-    sub-end
-    word-at-requires-2
-    slice-aggregate-check-word
-    check-word-requires
-    returns-4
-    word-at-requires-3
-    shared-slice-read-new
-    shared-slice-read-new-2
-    cast-new
-    new-requires
-    returns-5)
+    returns-4)

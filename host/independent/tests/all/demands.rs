@@ -34,13 +34,13 @@ enum Event {
     Store(u8, u8),
 }
 
-/// A good frame of one of a few masters, mostly of a kind that is carried out.
+/// A good frame or pair of one of a few masters, mostly of a kind that is carried out.
 fn good_frame(dice: &mut Dice) -> Vec<u8> {
     let unit = dice.pick(&[UNIT, UNIT, UNIT, UNIT, UNIT, UNIT, ALL, UNIT + 1]);
     let master = dice.below(3) as u8;
     let file = dice.pick(&[0, 1, 5, 2]);
     let ordinal = dice.pick(&[0, 3, 6, 0x0B, 5]);
-    let (function, command, data): (u8, u8, Vec<u8>) = match dice.below(14) {
+    let (function, command, data): (u8, u8, Vec<u8>) = match dice.below(15) {
         0 => (0x00, dice.pick(&[0x4D, 0x01, 0x41, 0x02]), vec![]),
         1 => (0x03, 0x80, vec![]),
         2 => (0x03, 0x00, vec![4, dice.pick(&[0x15, 0x16])]),
@@ -52,6 +52,7 @@ fn good_frame(dice: &mut Dice) -> Vec<u8> {
         10 => (0x20, 0x30, vec![dice.pick(&[0, 2]), 0, ordinal]),
         11 => (0x20, 0x31, vec![0, 1, dice.pick(&[0x30, 0x80])]),
         12 => (0x28, dice.pick(&[0x30, 0x31]), vec![0, 0, ordinal, 4]),
+        13 => return pair(dice, master, unit, ordinal),
         _ => (
             0x20,
             dice.pick(&[0x00, 0x38]),
@@ -59,6 +60,13 @@ fn good_frame(dice: &mut Dice) -> Vec<u8> {
         ),
     };
     frame(master, unit, function, command, &data)
+}
+
+/// A WRITE and its EXECUTE in one stretch.
+fn pair(dice: &mut Dice, master: u8, unit: u16, ordinal: u8) -> Vec<u8> {
+    let write = frame(master, unit, 0x20, 0x30, &[dice.pick(&[0, 2]), 0, ordinal]);
+    let data = vec![dice.byte(); dice.below(20)];
+    [write, frame(master, unit, 0x20, 0x31, &data)].concat()
 }
 
 fn event(dice: &mut Dice) -> Event {
@@ -89,11 +97,13 @@ fn apply(rig: &mut Rig, event: &Event) -> (u8, Option<Got>) {
     }
 }
 
-/// A good frame cut at its end, or with changes within 16 neighbouring sent bits.
+/// A good stretch cut at its end, not at a seam, or changed within 16 neighbouring sent bits.
 fn damaged(dice: &mut Dice) -> Vec<u8> {
     let mut bytes = good_frame(dice);
     if dice.below(2) == 0 {
-        bytes.truncate(dice.below(bytes.len()));
+        let left = dice.below(bytes.len());
+        let seam = independent::Frame::read(&bytes[..left]).is_ok();
+        bytes.truncate(if seam { left - 1 } else { left });
         return bytes;
     }
     let bits = bytes.len() * 8;

@@ -12,6 +12,7 @@ mod kept;
 mod lag;
 mod order;
 mod outcomes;
+mod pairs;
 mod programs;
 mod rig;
 mod scans;

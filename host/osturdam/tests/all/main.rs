@@ -6,4 +6,5 @@ mod cases;
 mod lag;
 mod letter;
 mod line;
+mod pairs;
 mod saved;

@@ -1,13 +1,16 @@
 -- `serve::line::judged` meets its contract. Assumes nothing.
 use mathlib.Core.Path.{sym, _∙_}
+use mathlib.Core.Logic.{⊎-elim}
+use Rattle.model.proofs.PairLaws.{pair-front, heard-pair}
+use Rattle.frames.proofs.HearLaws.{rest}
 use Rattle.layout.specs.Numbers.{portIn}
 use Rattle.layout.proofs.NumbersLaws.{readable-written}
 use Rattle.layout.specs.Unit.{configIn, numbersIn}
-use Rattle.layout.specs.Kept.{innerIn}
+use Rattle.layout.specs.Kept.{innerIn, ownedOf}
 use Rattle.layout.proofs.UnitLaws.{numbers-only}
 use Rattle.serve.proofs.CommandLaws.{unshifted-numbers}
-use Rattle.serve.proofs.KeptLaws.{steady-then}
-use Rattle.serve.proofs.StretchLaws.{unit-marked, judged-broken, judged-wrong, judged-own, judged-all, judged-other}
+use Rattle.serve.proofs.StretchLaws.{unit-marked, judged-broken, judged-wrong}
+use Rattle.serve.proofs.PairedLaws.{pair-reach, Onward, onward-whole, onward-taken, onward-refused}
 use borrow.Author.Needs.{needs}
 use Rattle.serve.proofs.line.judged.Statement.{statement}
 use Rattle.serve.proofs.line.judged.Tie as tie
@@ -36,71 +39,42 @@ marked-requires-2 c κs = search needs
 enum-known-heard : tie.Need-enum-known-heard
 enum-known-heard c = search needs
 
-data-of-requires : tie.Need-data-of-requires
-data-of-requires c κs = search needs
+enum-known-heard-2 : tie.Need-enum-known-heard-2
+enum-known-heard-2 c = search needs
 
-unit-of-requires : tie.Need-unit-of-requires
-unit-of-requires c κs = search needs
+slice-aggregate-part : tie.Need-slice-aggregate-part
+slice-aggregate-part c = sym (pair-front _ _ _ (heard-pair (c .before .before .before .before .before .before .before .before .before .args .s .now) _ _ (sym (c .before .before .before .before .hear .ensures) ∙ c .before .before .heard2 .given .1)))
 
-number-of-requires : tie.Need-number-of-requires
-number-of-requires c κs = search needs
+ahead-requires : tie.Need-ahead-requires
+ahead-requires c κs = let p = heard-pair (c .before .before .before .before .before .before .before .before .before .before .args .s .now) _ _ (sym (c .before .before .before .before .before .hear .ensures) ∙ c .before .before .before .heard2 .given .1) in (p .write .count, p .writes .0, p .writes .1)
 
-served-requires : tie.Need-served-requires
-served-requires c κs = search needs
+sub-part : tie.Need-sub-part
+sub-part c = pair-reach _ _ _ (heard-pair (c .before .before .before .before .before .before .before .before .before .before .before .before .args .s .now) _ _ (sym (c .before .before .before .before .before .before .before .hear .ensures) ∙ c .before .before .before .before .before .heard2 .given .1))
 
-same-length : tie.Need-same-length
-same-length c = search needs
+part-part-start : tie.Need-part-part-start
+part-part-start c = pair-reach _ _ _ (heard-pair (c .before .before .before .before .before .before .before .before .before .before .before .before .args .s .now) _ _ (sym (c .before .before .before .before .before .before .before .hear .ensures) ∙ c .before .before .before .before .before .heard2 .given .1))
 
-same-length-2 : tie.Need-same-length-2
-same-length-2 c = search needs
+part-part-end : tie.Need-part-part-end
+part-part-end c = search needs
 
-same-length-3 : tie.Need-same-length-3
-same-length-3 c = search needs
+-- whichever frame is left
+onward : (c : tie.At-match-came) → Onward (c .before .before .before .before .before .before .args .lag) (c .before .before .before .before .before .before .args .s .now)
+    (ownedOf (c .before .before .before .before .before .before .args .unit .now) (c .before .before .before .before .before .before .args .block .now) (c .before .before .before .before .before .before .args .records .now))
+    (ownedOf (c .match .unit) (c .before .before .before .before .before .before .args .block .now) (c .before .before .before .before .before .before .args .records .now)) (c .before .before .before .before .before .before .args .buffer .now) (c .match .part .now) (c .match .frame)
+onward c =
+    let s = c .before .before .before .before .before .before in
+    let heard = sym (c .before .hear .ensures) in
+    ⊎-elim (λ w. rw (w .3, w .4, w .5) (onward-whole (s .args .lag) (s .args .s .now) _ _ _ (s .pre .1) (heard ∙ w .1 .given .1)))
+    (⊎-elim
+    (λ w. rw (w .8, w .9, w .10, rest) (onward-taken (s .args .lag) (s .args .s .now) _ _ (heard-pair _ _ _ (heard ∙ w .1 .given .1)) _ _ _ _ _ (s .pre .1) (s .pre .0) (w .5 .ensures) (w .6 .taken)))
+    (λ w. rw (w .7, w .8, w .9) (onward-refused (s .args .lag) (s .args .s .now) _ _ (heard-pair _ _ _ (heard ∙ w .1 .given .1)) _ _ _ _ _ (s .pre .1) (s .pre .0) (w .5 .ensures) (w .6 .left))))
+    (c .match .came)
+
+framed-requires : tie.Need-framed-requires
+framed-requires c κs = let left = onward (c .before .before .before .before) in (c .before .before .before .before .before .before .before .before .before .before .pre .0, left .clock, left .long)
 
 returns : tie.Need-returns
 returns c =
-    let s = c .before .before .before .before .before .before .before .before .before .before .before .before .before .before .before .before .before .before .before .before .before .before .before .before in
-    let u = s .args .unit .now in
-    let ks = numbersIn u in
-    let i = innerIn u (s .args .block .now) (s .args .records .now) in
-    let done = c .before .before .before .before .before .before .served .ensures in (
-      λ y stands.
-          judged-own (configIn u) i (s .args .lag) (s .args .s .now) (portIn ks .mark) (portIn ks) _ (sym (c .before .before .before .before .before .before .before .before .before .before .before .before .before .before .before .before .before .before .before .hear .ensures) ∙ c .before .before .before .before .before .before .before .before .before .before .before .before .before .before .before .before .before .heard .given .1) (c .before .before .before .before .before .before .before .before .before .before .before .before .before .before .before .data-of .ensures) (c .before .before .before .before .before .before .before .before .before .before .before .before .before .before .unit-of .ensures)
-          (c .before .before .before .before .before .before .before .before .before .before .before .if1 .taken ∙ c .before .before .before .before .before .before .before .before .before .before .before .before .number-of .ensures) (done .0 y stands),
-      done .1,
-    )
-
-broadcast-requires : tie.Need-broadcast-requires
-broadcast-requires c κs = search needs
-
-marked-requires-3 : tie.Need-marked-requires-3
-marked-requires-3 c κs = search needs
-
-returns-2 : tie.Need-returns-2
-returns-2 c =
-    let s = c .before .before .before .before .before .before .before .before .before .before .before .before .before .before .before .before .before .before in
-    let u = s .args .unit .now in
-    let ks = numbersIn u in
-    let i = innerIn u (s .args .block .now) (s .args .records .now) in
-    let done = c .before .before .broadcast .ensures in (
-      λ y stands.
-          unit-marked (s .args .s .now) _ _ _ _
-          (rw (done .1 .counts)
-          (judged-all (configIn u) i (s .args .lag) (s .args .s .now) (portIn ks .mark) (portIn ks) _ (sym (c .before .before .before .before .before .before .before .before .before .before .before .before .before .hear .ensures) ∙ c .before .before .before .before .before .before .before .before .before .before .before .heard .given .1) (c .before .before .before .before .before .before .before .before .before .data-of .ensures) (c .before .before .before .before .before .before .before .before .unit-of .ensures)
-          (λ e. c .before .before .before .before .before .if1 .left (e ∙ sym (c .before .before .before .before .before .before .number-of .ensures))) (c .before .before .before .before .if2 .taken)
-          (done .0 (s .args .block .now) (i .history .files) (portIn ks .mark) (s .args .buffer .now) stands)))
-          (c .marked3 .ensures),
-      steady-then u _ _ (done .1 .steady) (unshifted-numbers _ _ (numbers-only _ _ (c .marked3 .ensures .1)) .steady),
-    )
-
-quiet-requires-3 : tie.Need-quiet-requires-3
-quiet-requires-3 c κs = search needs
-
-marked-requires-4 : tie.Need-marked-requires-4
-marked-requires-4 c κs = search needs
-
-returns-3 : tie.Need-returns-3
-returns-3 c =
     let s = c .before .before .before .before .before .before .before .before .before .before in
     let u = s .args .unit .now in
     let ks = numbersIn u in
@@ -112,8 +86,8 @@ returns-3 c =
       unshifted-numbers u _ (numbers-only _ _ (c .marked .ensures .1)) .steady,
     )
 
-returns-4 : tie.Need-returns-4
-returns-4 c =
+returns-2 : tie.Need-returns-2
+returns-2 c =
     let s = c .before .before .before .before .before .before .before .before .before .before in
     let u = s .args .unit .now in
     let ks = numbersIn u in
@@ -125,20 +99,17 @@ returns-4 c =
       unshifted-numbers u _ (numbers-only _ _ (c .marked2 .ensures .1)) .steady,
     )
 
-returns-5 : tie.Need-returns-5
-returns-5 c =
-    let s = c .before .before .before .before .before .before .before .before .before .before .before .before .before .before .before .before .before in
-    let u = s .args .unit .now in
-    let ks = numbersIn u in
-    let i = innerIn u (s .args .block .now) (s .args .records .now) in (
-      λ y stands.
-          unit-marked (s .args .s .now) _ u _ _
-          (judged-other (configIn u) i (s .args .lag) (s .args .s .now) (portIn ks .mark) (portIn ks) _ (sym (c .before .before .before .before .before .before .before .before .before .before .before .before .hear .ensures) ∙ c .before .before .before .before .before .before .before .before .before .before .heard .given .1) (c .before .before .before .before .before .before .before .before .data-of .ensures) (c .before .before .before .before .before .before .before .unit-of .ensures) (readable-written ks stands)
-          (λ e. c .before .before .before .before .if1 .left (e ∙ sym (c .before .before .before .before .before .number-of .ensures))) (c .before .before .before .if2 .left)
-          (c .before .quiet3 .ensures))
-          (c .marked4 .ensures),
-      unshifted-numbers u _ (numbers-only _ _ (c .marked4 .ensures .1)) .steady,
-    )
+same-length : tie.Need-same-length
+same-length c = search needs
+
+same-length-2 : tie.Need-same-length-2
+same-length-2 c = search needs
+
+same-length-3 : tie.Need-same-length-3
+same-length-3 c = search needs
+
+returns-3 : tie.Need-returns-3
+returns-3 c = onward (c .before .before .before .before .before .before .before .before .before .before .before) .makes _ _ (c .before .before .before .before .before .before .framed .ensures)
 
 pub judged-spec : {M : Type 1} → statement M
 judged-spec =
@@ -148,23 +119,20 @@ judged-spec =
     enum-told
     quiet-requires
     marked-requires
+    returns
     enum-told-2
     quiet-requires-2
     marked-requires-2
+    returns-2
     enum-known-heard
-    data-of-requires
-    unit-of-requires
-    number-of-requires
-    served-requires
+    enum-known-heard-2
+    slice-aggregate-part
+    ahead-requires
+    sub-part
+    part-part-start
+    part-part-end
+    framed-requires
     same-length
     same-length-2
     same-length-3
-    returns
-    broadcast-requires
-    marked-requires-3
-    returns-2
-    quiet-requires-3
-    marked-requires-4
-    returns-3
-    returns-4
-    returns-5)
+    returns-3)

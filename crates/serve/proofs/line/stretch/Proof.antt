@@ -3,9 +3,8 @@ use mathlib.Core.Path.{refl}
 use native.Mathlib.Omega.{arith}
 use Prim.Native.Nat.{_≤_, _<_}
 use lib.ListN.{length}
-use Rattle.layout.specs.Unit.{configIn}
-use Rattle.layout.specs.Kept.{stateOf, ownedOf, keptIn}
-use Rattle.serve.proofs.FitLaws.{judged-stands, judged-fits, judged-unfit, stands-room, stands-readable, in-range}
+use Rattle.layout.specs.Kept.{ownedOf}
+use Rattle.serve.proofs.FitLaws.{judged-stands, judged-fits, judged-unfit, stands-works}
 use Rattle.serve.proofs.StretchLaws.{stretch-short, stretch-unfit, stretch-made}
 use borrow.Author.Needs.{needs}
 use Rattle.serve.proofs.line.stretch.Statement.{statement}
@@ -28,7 +27,9 @@ judged-requires c κs =
     let s = c .before .before .before .before .before .before .before .before .before .before .before .before in
     let x = ownedOf (s .args .unit .now) (s .args .block .now) (s .args .records .now) in
     let l : 520 ≤ length (s .args .buffer .now) = omega (arith, c .before .before .before .before .before .before .before .if1 .left) in
-    (l, in-range (configIn (x .unit)) (stateOf (configIn (x .unit)) (keptIn x)) (judged-fits x refl refl (c .before .before .before .before .before .fits2 .ensures) (c .before .before .before .before .if2 .taken)) .clock)
+    let j = c .before .before .before .before .before .fits2 .ensures in
+    let t = c .before .before .before .before .if2 .taken in
+    (l, stands-works x (judged-stands x refl refl j t) (judged-fits x refl refl j t))
 
 same-length : tie.Need-same-length
 same-length c = search needs
@@ -48,10 +49,10 @@ returns-2 c =
     let t = c .before .before .before .before .before .before .before .before .before .before .before .if2 .taken in
     let stands = judged-stands x refl refl j t in
     let fits = judged-fits x refl refl j t in
-    let g = in-range (configIn (x .unit)) (stateOf (configIn (x .unit)) (keptIn x)) fits in
+    let g = stands-works x stands fits in
     let done = c .before .before .before .before .before .before .judged .ensures in
     stretch-made (s .args .lag) (s .args .s .now) x (s .args .buffer .now) _ _ stands l fits
-    (done .0 (record { valid = g .valid; fits = g .history; room = stands-room x stands }) (stands-readable x stands)) (done .1)
+    (done .0 (g .ready) (g .numbers)) (done .1)
 
 quiet-requires-2 : tie.Need-quiet-requires-2
 quiet-requires-2 c κs = search needs
