@@ -24,6 +24,14 @@ void ask(unsigned function, unsigned command, const void *data, size_t count, in
     expect("a request", stretch(&u, s, n, counted), wanted);
 }
 
+void ask_both(const void *place, const void *data, size_t count, int counted, unsigned wanted)
+{
+    uint8_t s[OSTURDAM_STRETCH];
+    size_t n = frame(s, MASTER, UNIT, 0x20, 0x30, place, 3);
+    n += frame(s + n, MASTER, UNIT, 0x20, 0x31, data, count);
+    expect("a pair", stretch(&u, s, n, counted), wanted);
+}
+
 // The analogs first, then status, then accumulators; what is no point comes after all of them.
 static int place(int input)
 {

@@ -13,6 +13,9 @@ void expect(const char *what, unsigned got, unsigned wanted);
 // A request of the one master.
 void ask(unsigned function, unsigned command, const void *data, size_t count, int counted, unsigned wanted);
 
+// A WRITE and an EXECUTE of the one master, in one stretch.
+void ask_both(const void *place, const void *data, size_t count, int counted, unsigned wanted);
+
 // So many of the 208 points, the analogs first; 127 calculations, 32 files of the longest records, the longest parameter block.
 void equip(int points);
 

@@ -10,7 +10,7 @@
 
 enum { MOST_EVENTS = 48, AGAIN = 509, ABOUT = 2 };
 enum flags { ANY_CONFIG = 1, ANY_STATE = 2, NULLS = 4, MOST_ROOM = 8 };
-enum to { OWN, ALL, ANOTHER };
+enum to { OWN, ALL, ANOTHER, BEHIND };
 
 /* Functions with the commands that they have; below the high nibble of a file's or table's command any file or table. */
 static const uint8_t commands[][2] = {
@@ -22,7 +22,8 @@ enum { COMMANDS = sizeof commands / sizeof commands[0] };
 
 static const uint8_t *input;
 static size_t left;
-static uint32_t lag; /* of the stretches to come */
+static uint32_t lag;  /* of the stretches to come */
+static size_t latest; /* the characters of the frames read last, in one stretch */
 
 int LLVMFuzzerTestOneInput(const uint8_t *data, size_t size);
 
@@ -113,10 +114,10 @@ static void read_chars(uint8_t *place, size_t many)
         place[i] = (uint8_t)next(1);
 }
 
-/* A frame with the right check, mostly of a known command and mostly to this unit. */
+/* A frame with the right check, mostly of a known command and mostly to this unit; some come in one stretch behind those before them. */
 static void read_frame(struct call *c)
 {
-    static uint8_t data[0xFF], frame[sizeof data + 8];
+    static uint8_t data[0xFF], frames[3 * (sizeof data + 8)];
     unsigned whom = next(1), chosen = next(1), low = next(1), many = next(1);
     unsigned function = chosen < 0xF0 ? commands[chosen % COMMANDS][0] : low;
     unsigned command = chosen < 0xF0 ? commands[chosen % COMMANDS][1] : next(1);
@@ -125,9 +126,10 @@ static void read_frame(struct call *c)
     unsigned own = osturdam_word_at(lent[UNIT].at + OSTURDAM_AT_NUMBER);
     unsigned unit = whom >> 5 == ALL ? LINE_BROADCAST : whom >> 5 == ANOTHER ? own ^ 1u : own;
     read_chars(data, many);
-    size_t length = line_frame(frame, unit & 0x7FF, whom & 0x1F, function, command, data, many);
-    lent_place(STRETCH, length);
-    memcpy(lent[STRETCH].at, frame, length);
+    size_t from = whom >> 5 == BEHIND && latest + sizeof data + 8 <= sizeof frames ? latest : 0;
+    latest = from + line_frame(frames + from, unit & 0x7FF, whom & 0x1F, function, command, data, many);
+    lent_place(STRETCH, latest);
+    memcpy(lent[STRETCH].at, frames, latest);
     c->kind = HEAR;
     c->value = lag;
 }
@@ -235,6 +237,7 @@ int LLVMFuzzerTestOneInput(const uint8_t *data, size_t size)
     input = data;
     left = size;
     lag = 0;
+    latest = 0;
     begin(&c);
     for (int i = 0; i < MOST_EVENTS && left > 0; i++)
         if (read_event(&c))

@@ -14,7 +14,7 @@ with open(os.path.join(FOLDER, '../include/osturdam.h'), encoding='utf-8') as he
 BLOCK, REPLY, RECORDS, ROOM = (NUMBERS[name] for name in ('BLOCK', 'REPLY', 'RECORDS', 'ROOM'))
 FRAME, VALUES, HOLD, SILENT, LAG, LAYOUT = (NUMBERS[name] for name in ('FRAME', 'VALUES', 'HOLD_MS', 'SILENT_MS', 'LAG_MS', 'LAYOUT'))
 ANY_CONFIG, ANY_STATE, NULLS, MOST_ROOM = 1, 2, 4, 8
-OWN, ALL, ANOTHER = 0, 1, 2
+OWN, ALL, ANOTHER, BEHIND = 0, 1, 2, 3
 COMMANDS = [(0x00, 0x41), (0x00, 0x4D), (0x03, 0x00), (0x03, 0x80), (0x04, 0x00), (0x04, 0x20), (0x04, 0x40), (0x04, 0x60), (0x0A, 0x40), (0x10, 0x10),
             (0x10, 0x11), (0x10, 0x20), (0x10, 0x21), (0x20, 0x00), (0x20, 0x11), (0x20, 0x30), (0x20, 0x31), (0x20, 0x38), (0x28, 0x30), (0x28, 0x31)]
 
@@ -84,8 +84,13 @@ def about(more):
     return struct.pack('<BBH', 15, 3, 2 + more)
 
 
-def write(ordinal, bias, data, master=1):
-    return frame(0x20, 0x30, struct.pack('<HB', bias, ordinal), master) + frame(0x20, 0x31, data, master)
+def write(ordinal, bias, data, master=1, to=OWN):
+    return frame(0x20, 0x30, struct.pack('<HB', bias, ordinal), master) + frame(0x20, 0x31, data, master, to)
+
+
+def together(ordinal, bias, data):
+    """In one stretch."""
+    return write(ordinal, bias, data, to=BEHIND)
 
 
 SCAN = frame(0x00, 0x4D)
@@ -101,6 +106,11 @@ INPUTS = {
     'late': head() + frame(0x10, 0x10, b'\x40') + elapsed(HOLD + 1) + frame(0x10, 0x20) + frame(0x10, 0x20),
     'broken-off': head() + frame(0x10, 0x10, b'\x40') + frame(0x10, 0x10, b'\x40', master=2) + frame(0x10, 0x21, master=2) + SCAN,
     'blocks': head() + write(3, 250, b'abcdef') + write(3, 250, b'abcdefg') + write(6, 384, bytes(128)) + frame(0x28, 0x30, b'\x01\x01\x06\xff'),
+    'pairs': head() + together(3, 250, b'abcdef') + together(3, 250, b'abcdefg') + together(6, 0, b'') + together(6, 384, bytes(128)) + SCAN,
+    'pairs-refused': head() + frame(0x20, 0x30, b'\0\0\6', master=2) + together(6, 0, b'x') + frame(0x20, 0x31, b'x', master=2)
+                     + frame(0x10, 0x10, b'\x40') + together(6, 0, b'x') + SCAN,
+    'pairs-apart': head() + together(6, 0, bytes(129)) + together(6, 0, b'x') + frame(0x20, 0x31, b'x', to=BEHIND)
+                   + frame(0x20, 0x30, b'\0\0\6') + frame(0x20, 0x31, b'x', master=2, to=BEHIND) + SCAN,
     'write-held': head() + frame(0x20, 0x30, b'\0\0\6') + frame(0x20, 0x30, b'\0\0\6', master=2) + frame(0x20, 0x31, b'x', master=2) + elapsed(HOLD + 1),
     'tables': head() + write(11, 0, b'\x12\x02\x30\x40' + b'\x00\x03\x80\x81\x82') + b''.join(frame(0x0A, 0x40, low=n) for n in range(1, 5)),
     'table-end': head() + write(11, 128, bytes([0x11, 126]) + bytes(126)) + write(11, 0, bytes([0x33, 126]) + bytes(126)) + frame(0x0A, 0x40, low=2),

@@ -6,7 +6,13 @@
 
 #include <stdbool.h>
 
-enum { HEAD = 7, LAST_MASTER = 31, DATA = OSTURDAM_REPLY - HEAD - 2, SLOT = OSTURDAM_RECORD_HEAD + 2 * OSTURDAM_VALUES };
+enum {
+    WRITE = OSTURDAM_STRETCH - OSTURDAM_FRAME,
+    HEAD = 7,
+    LAST_MASTER = 31,
+    DATA = OSTURDAM_REPLY - HEAD - 2,
+    SLOT = OSTURDAM_RECORD_HEAD + 2 * OSTURDAM_VALUES
+};
 
 typedef struct plain_config Config;
 typedef struct plain_unit Unit;

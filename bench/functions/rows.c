@@ -86,19 +86,26 @@ static void set_time(void)
     ask(0x20, 0x38, "\x03\x66\x23\x59\x59\x03\xE7", 7, 1, OSTURDAM_DONE);
 }
 
+// The longest pair: 128 characters of ordinal 06.
+static void both(void)
+{
+    static const uint8_t data[128] = {1, 2, 3};
+    ask_both("\x80\x01\x06", data, sizeof data, 1, OSTURDAM_DONE);
+}
+
 int main(int argc, char **argv)
 {
     static const struct {
         const char *name;
         void (*run)(void);
-    } rows[] = {{"points", points}, {"table", table},    {"last", last_table}, {"first", first_table}, {"values", values},
-                {"dump", dump},     {"store", one_more}, {"release", release}, {"refused", refused},   {"set", set_time}};
+    } rows[] = {{"points", points},  {"table", table},     {"last", last_table}, {"first", first_table}, {"values", values}, {"dump", dump},
+                {"store", one_more}, {"release", release}, {"refused", refused}, {"set", set_time},      {"pair", both}};
     equip(POINTS);
     for (size_t i = 0; argc == 2 && i < sizeof rows / sizeof rows[0]; i++)
         if (strcmp(argv[1], rows[i].name) == 0) {
             rows[i].run();
             return 0;
         }
-    fprintf(stderr, "usage: rows points | table | last | first | values | dump | store | release | refused | set\n");
+    fprintf(stderr, "usage: rows points | table | last | first | values | dump | store | release | refused | set | pair\n");
     return 2;
 }

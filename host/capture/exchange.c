@@ -46,7 +46,7 @@ static uint16_t check_of(const uint8_t *chars, size_t many)
     return (uint16_t)word;
 }
 
-static size_t lay_out(const struct step *s, uint8_t frame[OSTURDAM_FRAME])
+static size_t lay_out(const struct step *s, uint8_t *frame)
 {
     size_t n = 6 + s->count;
     frame[0] = s->unit & 0xFF;
@@ -74,15 +74,17 @@ static void pass(uint32_t ms)
 static void run(const struct step *steps, size_t many)
 {
     for (size_t i = 0; i < many; i++) {
-        uint8_t frame[OSTURDAM_FRAME], reply[OSTURDAM_REPLY];
+        uint8_t chars[OSTURDAM_STRETCH], reply[OSTURDAM_REPLY];
         pass(steps[i].before);
         if (steps[i].what)
             printf("W\t%s\n", steps[i].what);
-        size_t heard = lay_out(&steps[i], frame);
-        struct osturdam_heard stretch = {.chars = frame, .count = heard, .buffer = reply, .room = sizeof reply};
+        size_t heard = lay_out(&steps[i], chars);
+        if (steps[i].together)
+            heard += lay_out(&steps[++i], chars + heard);
+        struct osturdam_heard stretch = {.chars = chars, .count = heard, .buffer = reply, .room = sizeof reply};
         struct osturdam_turned turned;
         osturdam_hear(&lent, &stretch, &turned);
-        part('M', frame, heard);
+        part('M', chars, heard);
         printf("\t%u\n", (unsigned)turned.outcome);
         if (turned.sent > 0)
             line('U', reply, turned.sent);

@@ -12,6 +12,7 @@ struct step {
     uint8_t function, command, count;
     uint8_t data[128];
     uint8_t damage, cut; /* changed bits of the first check character; characters missing at the end */
+    uint8_t together;    /* in one stretch with the frame after it */
 };
 
 enum { UNIT = 1234, OTHER = 1235, EVERY = 0x7FF };
@@ -25,9 +26,10 @@ static const uint8_t files[] = {0, 3, 16, 31};
 static const uint8_t values[] = {1, 3, 16, 2};
 static const uint8_t held[] = {3, 2, 15, 0};
 
-/* A frame without data, and one with data, of a master. */
-#define ASK(m, f, c) 0, m, UNIT, f, c, 0, {0}, 0, 0
-#define SEND(m, f, c, n, ...) 0, m, UNIT, f, c, n, {__VA_ARGS__}, 0, 0
+/* A frame of a master without data, one with data, and one with data that the next follows with no idle mark. */
+#define ASK(m, f, c) 0, m, UNIT, f, c, 0, {0}, 0, 0, 0
+#define SEND(m, f, c, n, ...) 0, m, UNIT, f, c, n, {__VA_ARGS__}, 0, 0, 0
+#define JOIN(m, f, c, n, ...) 0, m, UNIT, f, c, n, {__VA_ARGS__}, 0, 0, 1
 
 static const struct step opening[] = {
     {"20h/38h sets the time", SEND(1, 0x20, 0x38, 7, 0x02, 0x99, 0x23, 0x57, 0x58, 0x03, 0xE7)},
@@ -66,7 +68,7 @@ static const struct step rest[] = {
     {"10h select, operate and cancel", SEND(1, 0x10, 0x10, 1, 0x00)},
     {0, ASK(1, 0x10, 0x20)},
     {0, SEND(1, 0x10, 0x11, 1, 0xFF)},
-    {0, 5000, 1, UNIT, 0x10, 0x20, 0, {0}, 0, 0},
+    {0, 5000, 1, UNIT, 0x10, 0x20, 0, {0}, 0, 0, 0},
     {0, SEND(1, 0x10, 0x11, 1, 0x07)},
     {0, ASK(1, 0x10, 0x21)},
     {"20h/11h resets an accumulator", SEND(1, 0x20, 0x11, 1, 0x41)},
@@ -75,6 +77,8 @@ static const struct step rest[] = {
     {0, SEND(2, 0x28, 0x30, 4, 0x1E, 0x01, 0x06, 0x0E)},
     {0, SEND(2, 0x28, 0x30, 4, 0x00, 0x00, 0x03, 0x10)},
     {0, SEND(2, 0x28, 0x30, 4, 0x00, 0x00, 0x0B, 0x00)},
+    {"20h/30h and 20h/31h in one stretch", JOIN(2, 0x20, 0x30, 3, 0x20, 0x01, 0x06)},
+    {0, SEND(2, 0x20, 0x31, 2, 0xCA, 0xFE)},
     {"refused with NOP", ASK(1, 0x01, 0x00)},
     {0, ASK(1, 0x00, 0x02)},
     {0, SEND(1, 0x00, 0x01, 1, 0x00)},
@@ -88,7 +92,7 @@ static const struct step rest[] = {
     {0, SEND(1, 0x28, 0x30, 4, 0x00, 0x00, 0x02, 0x01)},
     {0, SEND(1, 0x20, 0x11, 1, 0x80)},
     {0, SEND(1, 0x10, 0x10, 1, 0x07)},
-    {0, 5001, 1, UNIT, 0x10, 0x20, 0, {0}, 0, 0},
+    {0, 5001, 1, UNIT, 0x10, 0x20, 0, {0}, 0, 0, 0},
     {"refused with RST", ASK(1, 0x10, 0x20)},
     {0, SEND(1, 0x20, 0x31, 1, 0x55)},
     {0, SEND(1, 0x10, 0x10, 1, 0x07)},
@@ -96,13 +100,13 @@ static const struct step rest[] = {
     {0, ASK(1, 0x00, 0x01)},
     {0, SEND(2, 0x20, 0x30, 3, 0x00, 0x00, 0x00)},
     {0, SEND(1, 0x20, 0x30, 3, 0x00, 0x00, 0x00)},
-    {"unanswered", 0, 1, OTHER, 0x00, 0x01, 0, {0}, 0, 0},
-    {0, 0, 1, EVERY, 0x20, 0x38, 7, {0x00, 0x01, 0x00, 0x00, 0x00, 0x00, 0x00}, 0, 0},
-    {0, 0, 1, EVERY, 0x20, 0x11, 1, {0x40}, 0, 0},
-    {0, 0, 1, EVERY, 0x00, 0x4D, 0, {0}, 0, 0},
-    {"after broadcasts and a minute of silence", 60000, 1, UNIT, 0x03, 0x80, 0, {0}, 0, 0},
-    {"damaged", 0, 1, UNIT, 0x00, 0x40, 0, {0}, 0x10, 0},
-    {0, 0, 1, UNIT, 0x00, 0x40, 0, {0}, 0, 3},
+    {"unanswered", 0, 1, OTHER, 0x00, 0x01, 0, {0}, 0, 0, 0},
+    {0, 0, 1, EVERY, 0x20, 0x38, 7, {0x00, 0x01, 0x00, 0x00, 0x00, 0x00, 0x00}, 0, 0, 0},
+    {0, 0, 1, EVERY, 0x20, 0x11, 1, {0x40}, 0, 0, 0},
+    {0, 0, 1, EVERY, 0x00, 0x4D, 0, {0}, 0, 0, 0},
+    {"after broadcasts and a minute of silence", 60000, 1, UNIT, 0x03, 0x80, 0, {0}, 0, 0, 0},
+    {"damaged", 0, 1, UNIT, 0x00, 0x40, 0, {0}, 0x10, 0, 0},
+    {0, 0, 1, UNIT, 0x00, 0x40, 0, {0}, 0, 3, 0},
     {"after damage", ASK(1, 0x00, 0x40)},
     {"20h/00 starts anew", ASK(1, 0x20, 0x00)},
     {0, ASK(2, 0x28, 0x31)},

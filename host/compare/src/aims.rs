@@ -12,6 +12,7 @@ pub enum Aim {
     ResetCount,
     Write,
     Execute,
+    Both,
     SetTime,
     Read,
     ReadTime,
@@ -24,7 +25,7 @@ pub enum Aim {
 }
 
 /// Each function with its name and the outcomes that a call of it can have, besides those of every stretch.
-pub const AIMS: [(Aim, &str, &[u8]); 18] = [
+pub const AIMS: [(Aim, &str, &[u8]); 19] = [
     (Aim::Inputs, "00", &[0, 6, 7, 12]),
     (Aim::Tables, "0A", &[0, 6, 7, 8, 9, 12]),
     (Aim::AllValues, "03/80", &[0, 6, 7, 9, 12]),
@@ -34,6 +35,7 @@ pub const AIMS: [(Aim, &str, &[u8]); 18] = [
     (Aim::ResetCount, "20/11", &[0, 4, 6, 7, 8, 12]),
     (Aim::Write, "20/30", &[5, 6, 7, 12, 15]),
     (Aim::Execute, "20/31", &[0, 6, 7, 8, 12, 14, 15]),
+    (Aim::Both, "20/30/31", &[0, 5, 7, 8, 12, 15]),
     (Aim::SetTime, "20/38", &[0, 4, 6, 7, 8, 12]),
     (Aim::Read, "28/30", &[0, 6, 7, 8, 12]),
     (Aim::ReadTime, "28/31", &[0, 6, 7, 12]),

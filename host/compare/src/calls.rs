@@ -2,6 +2,7 @@
 
 use crate::aims::Aim;
 use crate::board::header::{self, FILES, HOLD_MS, LAG_MS, REPLY, SILENT_MS};
+use crate::both;
 use crate::event::Event;
 use crate::frames::{damaged, Draft};
 use crate::pair::{Pair, BUFFER};
@@ -21,6 +22,11 @@ pub fn call(rng: &mut Rng, pair: &Pair, aim: Aim) -> Event {
         Aim::SetValue => Event::Value(number(rng, &c.calculations), rng.long()),
         Aim::Pulses => Event::Pulses(accumulator(rng, c), count(rng)),
         Aim::Store => store(rng, c),
+        Aim::Both => {
+            let (write, execute) = pair_of(rng, pair);
+            let lag = lag(rng, aim);
+            both::sent(rng, write, execute, lag)
+        }
         _ => {
             let draft = draft(rng, pair, aim);
             let lag = lag(rng, aim);
@@ -134,12 +140,32 @@ fn draft(rng: &mut Rng, pair: &Pair, aim: Aim) -> Draft {
     }
 }
 
+/// A WRITE, and an EXECUTE for the place that it names.
+fn pair_of(rng: &mut Rng, pair: &Pair) -> (Draft, Draft) {
+    let any = rng.between(1, 128);
+    let many = rng.pick(&[1, 2, any, any, 118, 128]);
+    let write = Draft {
+        master: master(rng, pair, Aim::Both),
+        unit: pair.config.unit,
+        function: 0x20,
+        command: 0x30,
+        data: place(rng, pair, many),
+    };
+    let execute = Draft {
+        command: 0x31,
+        data: rng.bytes(many),
+        ..write.clone()
+    };
+    (write, execute)
+}
+
 /// Half the time the master whose select, write or history reply the function is about.
 fn master(rng: &mut Rng, pair: &Pair, aim: Aim) -> u8 {
     let s = &pair.state;
     let concerned = match aim {
         Aim::Control => s.select.map(|x| x.master).or(s.timed_out),
         Aim::Write | Aim::Execute => s.write.map(|x| x.master),
+        Aim::Both => (s.write.map(|x| x.master)).or(s.select.map(|x| x.master)),
         Aim::History => s.history.map(|x| x.master),
         _ => None,
     };

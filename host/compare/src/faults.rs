@@ -2,6 +2,7 @@
 
 use crate::board::header::{self, KEPT};
 use crate::board::{Turned, Unit};
+use crate::both::is_pair;
 use crate::event::Event;
 use crate::places::Places;
 
@@ -16,7 +17,7 @@ pub struct Fault {
 }
 
 /// The faults, one for each kind of thing that is compared.
-pub static FAULTS: [Fault; 13] = [
+pub static FAULTS: [Fault; 14] = [
     Fault {
         name: "a select held by another is told as none",
         most: 2,
@@ -72,6 +73,15 @@ pub static FAULTS: [Fault; 13] = [
             if set_with_lag(e, t) {
                 let sent = u16::from(set_second(e));
                 u.memory.put_kept(header::SECOND, sent);
+            }
+        },
+    },
+    Fault {
+        name: "a pair leaves its write",
+        most: 1,
+        plant: |e, _, _, u, t, _| {
+            if matches!(e, Event::Stretch { bytes, .. } if is_pair(bytes)) && t.outcome == 0 {
+                u.memory.put_kept(header::WRITE, 1);
             }
         },
     },

@@ -56,7 +56,7 @@ pub fn damaged(rng: &mut Rng, draft: &Draft) -> Vec<u8> {
 }
 
 /// Changes bits within 16 neighbouring ones, the low bit of each character first.
-fn burst(rng: &mut Rng, bytes: &mut [u8]) {
+pub fn burst(rng: &mut Rng, bytes: &mut [u8]) {
     let bits = 8 * bytes.len();
     let first = rng.below(bits);
     let mask = rng.word() | 1;
@@ -85,8 +85,8 @@ fn miscounted(rng: &mut Rng, mut bytes: Vec<u8>) -> Vec<u8> {
 
 /// Anything, or nothing but 0, of a length next to a limit or far beyond all; eight characters of 0 are a frame.
 fn noise(rng: &mut Rng) -> Vec<u8> {
-    let (longest, some) = (header::FRAME, rng.flip());
-    let around = [longest - 1, longest, longest + 1];
+    let (frame, stretch, some) = (header::FRAME, header::STRETCH, rng.flip());
+    let around = [frame - 1, frame, frame + 1, stretch, stretch + 1];
     let length = match rng.below(10) {
         0..3 => rng.pick(&around),
         3 => rng.pick(&[600, VERY_LONG]),

@@ -5,6 +5,7 @@
 mod aims;
 mod bends;
 mod board;
+mod both;
 mod calls;
 mod event;
 mod faults;

@@ -1,6 +1,7 @@
 //! Things worth seeing in a run, each with how it is known: a comparison that never met one has not compared it.
 
 use crate::board::header::*;
+use crate::both::{halves, is_pair};
 use crate::event::Event;
 use crate::frames::VERY_LONG;
 use crate::pair::Pair;
@@ -9,7 +10,7 @@ use independent::{Answer, Clock};
 type Known = fn(&Event, &Pair, &Answer) -> bool;
 
 /// What must have been seen.
-pub const SEEN: [(&str, Known); 49] = [
+pub const SEEN: [(&str, Known); 63] = [
     ("reply of 511 data characters", |_, _, a| a.sent == REPLY),
     ("table scan of 255 words", |_, p, a| {
         a.sent == REPLY - 1 && p.reply()[2] == 0x0A
@@ -30,6 +31,46 @@ pub const SEEN: [(&str, Known); 49] = [
     ("stretch of 137 characters", |e, _, a| told(e, a, FRAME + 1)),
     ("stretch of 100,000 characters", |e, _, a| {
         told(e, a, VERY_LONG)
+    }),
+    ("stretch of 148 characters", |e, _, a| {
+        told(e, a, STRETCH + 1)
+    }),
+    ("pair of 19 characters", |e, _, a| {
+        paired(e, a, WRONG_COUNT) && heard(e).len() == STRETCH - FRAME + 8
+    }),
+    ("pair of 137 characters done", |e, _, a| {
+        paired(e, a, DONE) && heard(e).len() == FRAME + 1
+    }),
+    ("pair of 147 characters done", |e, _, a| {
+        paired(e, a, DONE) && heard(e).len() == STRETCH
+    }),
+    ("pair past its block's end", |e, _, a| {
+        paired(e, a, NOT_VALID)
+    }),
+    ("pair of a master whose write waits", |e, p, a| {
+        paired(e, a, DONE) && p.before[WRITE] == 1
+    }),
+    ("pair that breaks a select off", |e, _, a| {
+        paired(e, a, BROKEN_OFF)
+    }),
+    ("pair while another's write waits", |e, p, a| {
+        paired(e, a, WRITE_HELD) && p.unit.memory.kept(WRITE) == 1
+    }),
+    ("pair for another unit", |e, _, a| paired(e, a, OTHER_UNIT)),
+    ("pair to all", |e, p, a| {
+        paired(e, a, BROADCAST_REFUSED) && p.unit.memory.kept(STATUS_BROADCAST) == 1
+    }),
+    ("pair with a damaged WRITE", |e, _, a| {
+        apart(e, a, (false, true))
+    }),
+    ("pair with a damaged EXECUTE", |e, _, a| {
+        apart(e, a, (true, false))
+    }),
+    ("pair damaged over its seam", |e, _, a| {
+        apart(e, a, (false, false))
+    }),
+    ("WRITE and EXECUTE of two addresses", |e, _, a| {
+        apart(e, a, (true, true))
     }),
     ("frame of 8 characters of 0", |e, _, a| {
         heard(e) == [0; 8] && served(a)
@@ -164,6 +205,16 @@ fn served(answer: &Answer) -> bool {
         && outcome != CHECK_WRONG
         && outcome != NOT_CONFIGURED
         && outcome != BUFFER_SHORT
+}
+
+/// The stretch was a pair that ended so.
+fn paired(event: &Event, answer: &Answer, outcome: usize) -> bool {
+    usize::from(answer.outcome) == outcome && is_pair(heard(event))
+}
+
+/// The stretch was no whole frame: a WRITE and an EXECUTE, of which these were right.
+fn apart(event: &Event, answer: &Answer, right: (bool, bool)) -> bool {
+    usize::from(answer.outcome) == NOT_WHOLE && halves(heard(event)) == Some(right)
 }
 
 /// The file that a record was stored in.

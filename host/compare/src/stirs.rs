@@ -13,6 +13,7 @@ pub fn stirs(rng: &mut Rng, pair: &Pair, aim: Aim) -> Vec<Change> {
         Aim::Control if rng.percent(50) => 1,
         Aim::Write if rng.percent(30) => 2,
         Aim::Execute if rng.percent(75) => 2,
+        Aim::Both if rng.percent(40) => rng.pick(&[1, 2]),
         Aim::History if rng.percent(30) => rng.pick(&[3, 3, 10]),
         Aim::Store if rng.percent(8) => 10,
         Aim::Tables if rng.percent(8) => 11,
