@@ -66,8 +66,10 @@ static void equip_all(int points, int files)
         osturdam_equip_output(c, i);
     for (int i = 0; i < 127; i++)
         osturdam_equip_calculation(c, i);
-    for (int i = 0; i < files; i++)
+    for (int i = 0; i < files; i++) {
         osturdam_equip_file(c, i, OSTURDAM_VALUES);
+        osturdam_keep_newest(c, i);
+    }
     fresh(&u);
     fill();
 }

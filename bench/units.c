@@ -126,6 +126,7 @@ void fresh(struct units *u)
     memcpy(p->calculations, c->calculations, sizeof p->calculations);
     memcpy(p->files, c->files, sizeof p->files);
     memcpy(p->values, c->values, sizeof p->values);
+    memcpy(p->oldest, c->oldest, sizeof p->oldest);
     plain_fresh(&u->plain);
     u->rust = rust_fresh(p);
 }

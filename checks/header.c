@@ -210,6 +210,42 @@ static void records(void)
     expect("the reply's more", 1, kept(OSTURDAM_MEMORY_MORE));
 }
 
+/* A full file that keeps the newest drops the oldest record behind those of the latest reply; one whose records are all in it drops none. */
+static void dropped(void)
+{
+    static const uint16_t given[1] = {5};
+    configure();
+    osturdam_equip_file(&config, 1, 1);
+    expect("a file equipped keeps the oldest", 1, osturdam_keeps_oldest(&config, 1));
+    osturdam_keep_newest(&config, 1);
+    expect("one told otherwise", 0, osturdam_keeps_oldest(&config, 1));
+    expect("no file", 0, osturdam_keeps_oldest(&config, OSTURDAM_FILES));
+    start();
+    for (int i = 0; i < OSTURDAM_ROOM; i++)
+        EXPECT(OSTURDAM_STORED, osturdam_take_record(&lent, 1, (uint8_t)i, given, 1));
+    expect("the error before a drop", 0, kept(OSTURDAM_STATUS_ERROR));
+    EXPECT(OSTURDAM_DONE, ask(ONE, 0x04, 0x41, "", 0));
+    EXPECT(OSTURDAM_STORED, osturdam_take_record(&lent, 1, OSTURDAM_ROOM, given, 1));
+    expect("the error after it", 1, kept(OSTURDAM_STATUS_ERROR));
+    EXPECT(OSTURDAM_ROOM, osturdam_count_of(&all.unit, 1));
+    expect("the record that was sent", 0, all.records[osturdam_record_place(&config, 1, 0)]);
+    expect("the one behind it", 2, all.records[osturdam_record_place(&config, 1, 1)]);
+    expect("the newest", OSTURDAM_ROOM, all.records[osturdam_record_place(&config, 1, OSTURDAM_ROOM - 1)]);
+    expect("the number dropped", 1, osturdam_dropped_of(&all.unit, 1));
+    expect("that of another file", 0, osturdam_dropped_of(&all.unit, 0));
+    expect("that of no file", 0, osturdam_dropped_of(&all.unit, OSTURDAM_FILES));
+    osturdam_word_to(all.unit.dropped + 2, OSTURDAM_DROPPED - 1);
+    for (int i = 0; i < 2; i++) {
+        EXPECT(OSTURDAM_STORED, osturdam_take_record(&lent, 1, 7, given, 1));
+        EXPECT(OSTURDAM_DROPPED, osturdam_dropped_of(&all.unit, 1));
+    }
+    EXPECT(OSTURDAM_DONE, ask(ONE, 0x04, 0x61, "", 0));
+    EXPECT(OSTURDAM_STORED, osturdam_take_record(&lent, 1, 7, given, 1));
+    EXPECT(OSTURDAM_DONE, ask(OTHER, 0x04, 0x61, "", 0));
+    EXPECT(OSTURDAM_ROOM, kept(OSTURDAM_MEMORY_QUANTITY));
+    EXPECT(OSTURDAM_FILE_FULL, osturdam_take_record(&lent, 1, 7, given, 1));
+}
+
 /* Files of three lengths with others between them that are not equipped, lent just what they ask for: each record is found at its place, and
  * one character less is too few. */
 static void packed(void)
@@ -386,6 +422,7 @@ int main(void)
     selects_and_writes();
     blocks();
     records();
+    dropped();
     packed();
     most_records();
     points();

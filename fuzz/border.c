@@ -8,7 +8,7 @@
 
 #include <stdlib.h>
 
-enum { MOST_EVENTS = 48, AGAIN = 509, ABOUT = 2 };
+enum { MOST_EVENTS = 48, AGAIN = 509, ABOUT = 2, HALF = 127 };
 enum flags { ANY_CONFIG = 1, ANY_STATE = 2, NULLS = 4, MOST_ROOM = 8 };
 enum to { OWN, ALL, ANOTHER, BEHIND };
 
@@ -68,6 +68,7 @@ static void configure(unsigned seed, unsigned density)
     equip(OSTURDAM_AT_OUTPUTS, seed, density, 0, OSTURDAM_INPUTS);
     equip(OSTURDAM_AT_CALCULATIONS, seed, density, 0, OSTURDAM_CALCULATIONS);
     equip(OSTURDAM_AT_FILES, seed, density, 0, OSTURDAM_FILES);
+    equip(OSTURDAM_AT_OLDEST, seed, HALF, 0, OSTURDAM_FILES);
     for (unsigned f = 0; f < OSTURDAM_FILES; f++)
         lent[CONFIG].at[OSTURDAM_AT_VALUES - OSTURDAM_AT_NUMBER + f] = (uint8_t)(1 + mixed(seed, f) % OSTURDAM_VALUES);
 }
@@ -178,6 +179,8 @@ static void read_change(void)
         {BLOCK, 0, 0},
         {UNIT, 0, 0},
         {UNIT, OSTURDAM_AT_LAYOUT, OSTURDAM_AT_NUMBER - OSTURDAM_AT_LAYOUT},
+        {UNIT, OSTURDAM_AT_OLDEST, OSTURDAM_FILES},
+        {UNIT, OSTURDAM_AT_DROPPED, OSTURDAM_UNIT - OSTURDAM_AT_DROPPED},
     };
     size_t which = next(1) % (sizeof of / sizeof of[0]);
     enum part part = of[which].part;

@@ -11,7 +11,7 @@
 enum { SHORTEST_REPLY = 9 };
 
 /* The regions of a unit's memory, of which each kind of event may change some. */
-enum region { LAYOUT, CONFIGURATION, NUMBERS, WORDS, RESULTS, FIXED, COUNTS, REGIONS };
+enum region { LAYOUT, CONFIGURATION, NUMBERS, WORDS, RESULTS, FIXED, COUNTS, DROPPED, REGIONS };
 static const struct {
     const char *name;
     size_t from, to;
@@ -22,7 +22,8 @@ static const struct {
     [WORDS] = {"words", OSTURDAM_AT_WORDS, OSTURDAM_AT_RESULTS},
     [RESULTS] = {"results", OSTURDAM_AT_RESULTS, OSTURDAM_AT_FIXED},
     [FIXED] = {"fixed", OSTURDAM_AT_FIXED, OSTURDAM_AT_COUNTS},
-    [COUNTS] = {"counts", OSTURDAM_AT_COUNTS, OSTURDAM_UNIT},
+    [COUNTS] = {"counts", OSTURDAM_AT_COUNTS, OSTURDAM_AT_DROPPED},
+    [DROPPED] = {"numbers dropped", OSTURDAM_AT_DROPPED, OSTURDAM_UNIT},
 };
 
 /* What each kind of event may change, as bits of parts and of regions. */
@@ -35,7 +36,7 @@ static const struct {
     [SET_WORD] = {0, 1u << WORDS},
     [PULSE] = {0, 1u << WORDS},
     [SET_VALUE] = {0, 1u << RESULTS},
-    [STORE] = {1u << RECORDS, 1u << NUMBERS | 1u << COUNTS},
+    [STORE] = {1u << RECORDS, 1u << NUMBERS | 1u << COUNTS | 1u << DROPPED},
 };
 
 static struct picture *before, *after;
@@ -226,10 +227,33 @@ static void check_parts(const struct call *c)
     hold(in_turn == osturdam_check(start, s, n), c, "another check of", "two parts");
 }
 
+/* How many records of a file the remembered reply carried. */
+static uint16_t spared(const struct osturdam_unit *u, uint8_t file)
+{
+    bool own = osturdam_kept_of(u, OSTURDAM_MEMORY) == OSTURDAM_REMEMBERED && osturdam_kept_of(u, OSTURDAM_MEMORY_FILE) == file;
+    return own ? osturdam_kept_of(u, OSTURDAM_MEMORY_QUANTITY) : (uint16_t)0;
+}
+
+/* A full file that may drop a record takes one and counts the other, and those of the remembered reply stay. */
+static void check_stored(const struct call *c, uint8_t outcome)
+{
+    struct osturdam_unit u = unit_in(before), left = unit_in(after);
+    uint8_t file = c->number;
+    uint16_t was = osturdam_dropped_of(&u, file), kept = spared(&u, file);
+    bool full = osturdam_count_of(&u, file) == OSTURDAM_ROOM, drops = full && outcome == OSTURDAM_STORED;
+    bool may = !osturdam_keeps_oldest(&u.config, file) && kept < OSTURDAM_ROOM;
+    size_t from = (size_t)osturdam_record_place(&u.config, file, 0), many = (size_t)kept * osturdam_record_length(&u.config, file);
+    hold(outcome <= OSTURDAM_WRONG_VALUES, c, "no such answer", "");
+    hold(!drops || may, c, "a record was dropped that stays", "");
+    hold(outcome != OSTURDAM_FILE_FULL || (full && !may), c, "a record was refused that is taken", "");
+    hold(osturdam_dropped_of(&left, file) == (drops && was < OSTURDAM_DROPPED ? was + 1 : was), c, "counted wrong:", "numbers dropped");
+    hold(as_before(RECORDS, from, from + many), c, "changed in the remembered", "records");
+}
+
 static void check_local(const struct call *c, uint8_t outcome)
 {
     if (c->kind == STORE)
-        hold(outcome <= OSTURDAM_WRONG_VALUES, c, "no such answer", "");
+        check_stored(c, outcome);
     else
         hold(outcome == OSTURDAM_DONE || (outcome == OSTURDAM_NOT_VALID && c->kind != ELAPSE), c, "no such answer", "");
 }

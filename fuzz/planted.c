@@ -7,6 +7,12 @@
     uint8_t *unit, uint8_t *block, uint64_t length, uint8_t *records, uint64_t room, uint8_t *buffer, uint64_t buffer_room, \
         const uint8_t *chars, uint64_t count, uint32_t lag, uint8_t *turned
 
+#define STORED                                                                                                          \
+    uint8_t *unit, const uint8_t *block, uint64_t length, uint8_t *records, uint64_t room, uint8_t file, uint8_t event, \
+        const uint16_t *values, uint64_t many
+
+uint8_t __real_osturdam_store_record(STORED);
+uint8_t __wrap_osturdam_store_record(STORED);
 uint8_t __real_osturdam_stretch(PARAMETERS);
 uint8_t __wrap_osturdam_stretch(PARAMETERS);
 
@@ -39,4 +45,19 @@ uint8_t __wrap_osturdam_stretch(PARAMETERS)
     }
     /* clang-format on */
     return outcome;
+}
+
+uint8_t __wrap_osturdam_store_record(STORED)
+{
+    uint8_t was = file < OSTURDAM_FILES ? unit[OSTURDAM_AT_COUNTS + file] : (uint8_t)0;
+    uint8_t stored = __real_osturdam_store_record(unit, block, length, records, room, file, event, values, many);
+    bool drops = stored == OSTURDAM_STORED && was == OSTURDAM_ROOM;
+    uint16_t dropped = osturdam_dropped(unit, file);
+    /* clang-format off */
+    switch (PLANTED) {
+    case 16: if (drops) osturdam_word_to(unit + OSTURDAM_AT_DROPPED + 2 * file, (uint16_t)(dropped - 1)); break; /* a drop not counted */
+    case 17: if (stored == OSTURDAM_FILE_FULL) stored = OSTURDAM_STORED; break;       /* a marked file takes a record */
+    }
+    /* clang-format on */
+    return stored;
 }

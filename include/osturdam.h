@@ -36,7 +36,7 @@ extern "C" {
 /* Of this interface: one more where a call changes, or the meaning of what it takes. Where a unit's memory changes, OSTURDAM_LAYOUT is
  * another, and a unit that was stored in another layout is OSTURDAM_NOT_CONFIGURED. A program holds this header to its library once, before
  * its first unit: osturdam_layout() == OSTURDAM_LAYOUT. */
-#define OSTURDAM_VERSION 4
+#define OSTURDAM_VERSION 5
 
 /* ---- limits, lengths, and where a unit's parts lie in its memory */
 
@@ -54,14 +54,15 @@ enum {
     OSTURDAM_REPLY = 520,           /* the longest reply, and the shortest buffer that a stretch is served with */
     OSTURDAM_VALUES = 16,           /* the most values in a record */
     OSTURDAM_ROOM = 32,             /* the most records in a file */
+    OSTURDAM_DROPPED = 65535,       /* the most records of a file that are told as dropped */
     OSTURDAM_RECORD_HEAD = 6,       /* a record's characters before its values: event and clock */
     OSTURDAM_RECORDS = 38912,       /* the most characters of records that a configuration asks for */
     OSTURDAM_HOLD_MS = 5000,        /* for how long a select or a write is held */
     OSTURDAM_SILENT_MS = 60000,     /* after how long with no stretch a port is silent */
     OSTURDAM_LAG_MS = 10000,        /* the longest lag with which a Set Time is taken */
-    OSTURDAM_CONFIG = 836,          /* characters of a configuration, which lies from AT_NUMBER on in a unit's memory */
-    OSTURDAM_UNIT = 2474,           /* characters of a unit's memory */
-    OSTURDAM_LAYOUT = 2,            /* the number of this layout, which stands first in the memory */
+    OSTURDAM_CONFIG = 868,          /* characters of a configuration, which lies from AT_NUMBER on in a unit's memory */
+    OSTURDAM_UNIT = 2570,           /* characters of a unit's memory */
+    OSTURDAM_LAYOUT = 3,            /* the number of this layout, which stands first in the memory */
     OSTURDAM_AT_LAYOUT = 0,
     OSTURDAM_AT_NUMBER = 2,
     OSTURDAM_AT_LENGTH = 4,
@@ -70,16 +71,18 @@ enum {
     OSTURDAM_AT_CALCULATIONS = 518,
     OSTURDAM_AT_FILES = 774,
     OSTURDAM_AT_VALUES = 806,
-    OSTURDAM_AT_NUMBERS = 838,
-    OSTURDAM_AT_WORDS = 890,
-    OSTURDAM_AT_RESULTS = 1402,
-    OSTURDAM_AT_FIXED = 1914,
-    OSTURDAM_AT_COUNTS = 2442,
-    OSTURDAM_AT_00 = 1914,          /* the block of ordinal 00h */
+    OSTURDAM_AT_OLDEST = 838,
+    OSTURDAM_AT_NUMBERS = 870,
+    OSTURDAM_AT_WORDS = 922,
+    OSTURDAM_AT_RESULTS = 1434,
+    OSTURDAM_AT_FIXED = 1946,
+    OSTURDAM_AT_COUNTS = 2474,
+    OSTURDAM_AT_DROPPED = 2506,
+    OSTURDAM_AT_00 = 1946,          /* the block of ordinal 00h */
     OSTURDAM_LENGTH_00 = 16,
-    OSTURDAM_AT_03 = 1930,          /* the block of ordinal 03h */
+    OSTURDAM_AT_03 = 1962,          /* the block of ordinal 03h */
     OSTURDAM_LENGTH_03 = 256,
-    OSTURDAM_AT_0B = 2186,          /* the block of ordinal 0Bh */
+    OSTURDAM_AT_0B = 2218,          /* the block of ordinal 0Bh */
     OSTURDAM_LENGTH_0B = 256
 };
 /* to here */
@@ -111,8 +114,8 @@ enum osturdam_outcome {
 
 /* How storing a record ended: these are no outcomes. */
 enum osturdam_stored {
-    OSTURDAM_STORED = 0,
-    OSTURDAM_FILE_FULL = 1,         /* nothing was stored, and the error bit is set */
+    OSTURDAM_STORED = 0,            /* a full file that does not keep the oldest dropped a record for it, and the error bit is set */
+    OSTURDAM_FILE_FULL = 1,         /* nothing was stored, and the error bit is set: the file keeps the oldest, or may drop none */
     OSTURDAM_NO_FILE = 2,           /* the file is not equipped */
     OSTURDAM_WRONG_VALUES = 3,      /* not as many values as the file's records have */
     OSTURDAM_STORE_NOT_CONFIGURED = 17 /* as OSTURDAM_NOT_CONFIGURED: nothing was changed */
@@ -178,7 +181,7 @@ enum osturdam_kept {
     OSTURDAM_WRITE_ORDINAL = 13,
     OSTURDAM_WRITE_AGE = 14,
     OSTURDAM_STATUS_CONFIGURE = 15, /* status bit 7: the unit is to be configured */
-    OSTURDAM_STATUS_ERROR = 16,     /* status bit 3: a file was full */
+    OSTURDAM_STATUS_ERROR = 16,     /* status bit 3: a file was full, and refused a record or dropped one */
     OSTURDAM_STATUS_BROADCAST = 17, /* status bit 2: a broadcast was heard */
     OSTURDAM_MEMORY = 18,           /* enum osturdam_memory */
     OSTURDAM_MEMORY_MASTER = 19,
@@ -206,6 +209,7 @@ struct osturdam_config {
     uint8_t calculations[OSTURDAM_INPUTS];  /* 00 to 7Fh */
     uint8_t files[OSTURDAM_FILES];
     uint8_t values[OSTURDAM_FILES];         /* of each equipped file: 1 to OSTURDAM_VALUES */
+    uint8_t oldest[OSTURDAM_FILES];         /* 0: full, it drops its oldest record for a new one; any other: it keeps the oldest */
 };
 
 struct osturdam_unit {
@@ -216,6 +220,7 @@ struct osturdam_unit {
     uint8_t results[4 * OSTURDAM_CALCULATIONS];
     uint8_t fixed[OSTURDAM_FIXED];          /* the blocks of ordinals 00, 03 and 0Bh */
     uint8_t counts[OSTURDAM_FILES];         /* how many records each file holds */
+    uint8_t dropped[2 * OSTURDAM_FILES];    /* and how many it has dropped */
 };
 
 /* What a unit's caller lends. Each equipped file has room for OSTURDAM_ROOM records of its own length, one behind the other with the oldest
@@ -277,6 +282,9 @@ uint8_t osturdam_valid(const uint8_t config[OSTURDAM_CONFIG]);
 
 /* How many characters of records a configuration asks for. */
 uint64_t osturdam_room(const uint8_t config[OSTURDAM_CONFIG]);
+
+/* How many records of a file a unit has dropped: to OSTURDAM_DROPPED, where it stays. Nothing clears it but osturdam_fresh. */
+uint16_t osturdam_dropped(const uint8_t unit[OSTURDAM_UNIT], uint8_t file);
 
 void osturdam_fresh(uint8_t unit[OSTURDAM_UNIT], uint8_t *block, uint64_t length, const uint8_t config[OSTURDAM_CONFIG]);
 
@@ -389,12 +397,27 @@ static inline uint8_t osturdam_values_of(const struct osturdam_config *c, uint8_
     return file < OSTURDAM_FILES ? c->values[file] : (uint8_t)0;
 }
 
+/* It keeps the oldest, unless osturdam_keep_newest says otherwise. */
 static inline void osturdam_equip_file(struct osturdam_config *c, uint8_t file, uint8_t values)
 {
     if (file < OSTURDAM_FILES) {
         c->files[file] = 1;
         c->values[file] = values;
+        c->oldest[file] = 1;
     }
+}
+
+/* A file that is full keeps the oldest records, and a new one is OSTURDAM_FILE_FULL; or it keeps the newest, and drops the oldest that is not
+ * in the latest history reply. */
+static inline int osturdam_keeps_oldest(const struct osturdam_config *c, uint8_t file)
+{
+    return file < OSTURDAM_FILES && c->oldest[file] != 0;
+}
+
+static inline void osturdam_keep_newest(struct osturdam_config *c, uint8_t file)
+{
+    if (file < OSTURDAM_FILES)
+        c->oldest[file] = 0;
 }
 
 /* How long the records of a file are; 0 of a file that is not equipped. */
@@ -463,6 +486,12 @@ static inline void osturdam_put_count(struct osturdam_unit *u, uint8_t file, uin
 {
     if (file < OSTURDAM_FILES)
         u->counts[file] = count;
+}
+
+/* How many records of a file were dropped. */
+static inline uint16_t osturdam_dropped_of(const struct osturdam_unit *u, uint8_t file)
+{
+    return osturdam_dropped((const uint8_t *)u, file);
 }
 
 /* How long the block of an ordinal of the fixed area is; 0 for any other. */
@@ -563,7 +592,7 @@ static inline enum osturdam_outcome osturdam_take_value(const struct osturdam_le
     return (enum osturdam_outcome)outcome;
 }
 
-/* A record of these values is to be stored under the unit's clock. */
+/* A record of these values is to be stored under the unit's clock; where the file is full and keeps the newest, another is dropped. */
 static inline enum osturdam_stored osturdam_take_record(const struct osturdam_lent *l, uint8_t file, uint8_t event, const uint16_t *values,
                                                         uint64_t many)
 {

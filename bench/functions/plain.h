@@ -11,7 +11,7 @@ struct plain_config {
     uint16_t number;
     size_t length; // of the parameter block
     uint8_t inputs[OSTURDAM_INPUTS], outputs[OSTURDAM_INPUTS], calculations[OSTURDAM_INPUTS];
-    uint8_t files[OSTURDAM_FILES], values[OSTURDAM_FILES];
+    uint8_t files[OSTURDAM_FILES], values[OSTURDAM_FILES], oldest[OSTURDAM_FILES];
 };
 
 // As enum osturdam_kept has them.
@@ -32,6 +32,7 @@ struct plain_unit {
     uint8_t block[OSTURDAM_BLOCK];
     uint8_t records[OSTURDAM_RECORDS];
     uint8_t counts[OSTURDAM_FILES];
+    uint16_t dropped[OSTURDAM_FILES];
 };
 
 // How a stretch ended.

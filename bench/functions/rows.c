@@ -67,6 +67,15 @@ static void one_more(void)
     expect("a record", store_record(&u, 0, 7, given, OSTURDAM_VALUES, 1), OSTURDAM_STORED);
 }
 
+// A full file that keeps the newest, with a record of it in the latest reply: the next goes, and 30 move down.
+static void swapped(void)
+{
+    uint16_t given[OSTURDAM_VALUES] = {1, 2, 3, 4, 5, 6, 7, 8, 9, 10, 11, 12, 13, 14, 15, 65535};
+    store(0, 32);
+    ask(0x04, 0x40, "", 0, 0, OSTURDAM_DONE);
+    expect("a record", store_record(&u, 0, 7, given, OSTURDAM_VALUES, 1), OSTURDAM_STORED);
+}
+
 // The acknowledging request names an empty file, so that nothing but the release is long.
 static void release(void)
 {
@@ -98,14 +107,14 @@ int main(int argc, char **argv)
     static const struct {
         const char *name;
         void (*run)(void);
-    } rows[] = {{"points", points},  {"table", table},     {"last", last_table}, {"first", first_table}, {"values", values}, {"dump", dump},
-                {"store", one_more}, {"release", release}, {"refused", refused}, {"set", set_time},      {"pair", both}};
+    } rows[] = {{"points", points},  {"table", table},  {"last", last_table}, {"first", first_table}, {"values", values}, {"dump", dump},
+                {"store", one_more}, {"swap", swapped}, {"release", release}, {"refused", refused},   {"set", set_time},  {"pair", both}};
     equip(POINTS);
     for (size_t i = 0; argc == 2 && i < sizeof rows / sizeof rows[0]; i++)
         if (strcmp(argv[1], rows[i].name) == 0) {
             rows[i].run();
             return 0;
         }
-    fprintf(stderr, "usage: rows points | table | last | first | values | dump | store | release | refused | set | pair\n");
+    fprintf(stderr, "usage: rows points | table | last | first | values | dump | store | swap | release | refused | set | pair\n");
     return 2;
 }

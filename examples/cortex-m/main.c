@@ -20,7 +20,7 @@ static void configure(void)
     osturdam_equip_input(&config, LOAD);
     osturdam_equip_output(&config, 0);
     osturdam_equip_output(&config, 1);
-    osturdam_equip_file(&config, FILE, TRIP_VALUES);
+    osturdam_equip_file(&config, FILE, TRIP_VALUES); /* it keeps the oldest: no trip goes that a master has not acknowledged */
 }
 
 /* A unit that was kept goes on, unless the image has another configuration by now. Nobody knows how long it was without power: a select or

@@ -10,9 +10,17 @@ struct reading {
     unsigned line;
     struct osturdam_config *config;
     bool unit, block; /* already given */
-    struct config_fault *faults;
-    size_t many, room; /* faults found, and how many may be told */
+    struct config_notes *faults, *notices;
 };
+
+static void note(struct config_notes *to, unsigned line, const char *format, va_list given)
+{
+    if (to->many < to->room) {
+        to->notes[to->many].line = line;
+        vsnprintf(to->notes[to->many].what, CONFIG_WHAT, format, given);
+    }
+    to->many++;
+}
 
 static void wrong(struct reading *r, const char *format, ...) __attribute__((format(printf, 2, 3)));
 
@@ -20,12 +28,18 @@ static void wrong(struct reading *r, const char *format, ...)
 {
     va_list given;
     va_start(given, format);
-    if (r->many < r->room) {
-        r->faults[r->many].line = r->line;
-        vsnprintf(r->faults[r->many].what, CONFIG_WHAT, format, given);
-    }
+    note(r->faults, r->line, format, given);
     va_end(given);
-    r->many++;
+}
+
+static void unsaid(struct reading *r, const char *format, ...) __attribute__((format(printf, 2, 3)));
+
+static void unsaid(struct reading *r, const char *format, ...)
+{
+    va_list given;
+    va_start(given, format);
+    note(r->notices, r->line, format, given);
+    va_end(given);
 }
 
 static bool any_fits(uint32_t number)
@@ -111,16 +125,24 @@ static void take_block(struct reading *r, char **words, size_t many)
     osturdam_put_length(r->config, (uint16_t)length);
 }
 
+/* Files of a text from before there was a choice all kept the oldest, so one that does not say is read so. */
 static void take_file(struct reading *r, char **words, size_t many)
 {
     uint32_t file, values;
-    if (many != 3 || !number_of(words[1], OSTURDAM_FILES - 1, &file) || !number_of(words[2], OSTURDAM_VALUES, &values) || values == 0) {
-        wrong(r, "file takes its number, 0 to %d, and how many values its records have, 1 to %d", OSTURDAM_FILES - 1, OSTURDAM_VALUES);
+    bool newest = many == 4 && strcmp(words[3], "newest") == 0, said = newest || (many == 4 && strcmp(words[3], "oldest") == 0);
+    if ((many != 3 && !said) || !number_of(words[1], OSTURDAM_FILES - 1, &file) || !number_of(words[2], OSTURDAM_VALUES, &values) ||
+        values == 0) {
+        wrong(r, "file takes its number, 0 to %d, how many values its records have, 1 to %d, and oldest or newest", OSTURDAM_FILES - 1,
+              OSTURDAM_VALUES);
         return;
     }
     if (osturdam_has_file(r->config, (uint8_t)file))
         wrong(r, "file %u is given a second time", (unsigned)file);
+    if (!said)
+        unsaid(r, "file %u says neither oldest nor newest: it keeps the oldest, and takes no record when it is full", (unsigned)file);
     osturdam_equip_file(r->config, (uint8_t)file, (uint8_t)values);
+    if (newest)
+        osturdam_keep_newest(r->config, (uint8_t)file);
 }
 
 static const struct {
@@ -164,10 +186,11 @@ static void take_line(struct reading *r, const char *chars, size_t length)
         take_words(r, words, many);
 }
 
-size_t config_read(const char *text, size_t length, struct osturdam_config *config, struct config_fault *faults, size_t room)
+bool config_read(const char *text, size_t length, struct osturdam_config *config, struct config_notes *faults, struct config_notes *notices)
 {
-    struct reading r = {.config = config, .faults = faults, .room = room};
+    struct reading r = {.config = config, .faults = faults, .notices = notices};
     memset(config, 0, sizeof *config);
+    faults->many = notices->many = 0;
     for (const char *end = text + length; text < end;) {
         const char *ends = memchr(text, '\n', (size_t)(end - text));
         size_t many = (size_t)((ends ? ends : end) - text);
@@ -177,7 +200,7 @@ size_t config_read(const char *text, size_t length, struct osturdam_config *conf
     r.line = 0;
     if (!r.unit)
         wrong(&r, "there is no line with the unit's number");
-    return r.many;
+    return faults->many == 0;
 }
 
 void config_bench(struct osturdam_config *config)

@@ -5,6 +5,7 @@
 #ifndef UNIT2179_CONFIG_H
 #define UNIT2179_CONFIG_H
 
+#include <stdbool.h>
 #include <stddef.h>
 
 #include "osturdam.h"
@@ -16,14 +17,22 @@ enum {
     CONFIG_WHAT = 160
 };
 
-struct config_fault {
+/* What is to be said of a line. */
+struct config_note {
     unsigned line; /* the first is 1; 0: the text as a whole */
     char what[CONFIG_WHAT];
 };
 
-/* Reads a text of some characters. Answers how many faults it has, of which the first `room` are told; where there is none, the
- * configuration is what it says. */
-size_t config_read(const char *text, size_t length, struct osturdam_config *config, struct config_fault *faults, size_t room);
+/* As much of it as there is room for, and how much there is. */
+struct config_notes {
+    struct config_note *notes;
+    size_t room, many;
+};
+
+/* Reads a text of some characters. Answers whether it has no fault: then the configuration is what it says, and what it leaves unsaid is
+ * among the notices. */
+bool config_read(const char *text, size_t length, struct osturdam_config *config, struct config_notes *faults,
+                 struct config_notes *notices);
 
 /* The unit of document 01's bench lines: 1234, inputs 30h and 40h. */
 void config_bench(struct osturdam_config *config);

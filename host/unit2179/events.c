@@ -174,12 +174,17 @@ const char *event_kind(const struct event *event)
     return kinds[event->kind].word;
 }
 
+bool event_stores(const struct event *event)
+{
+    return kinds[event->kind].apply == store_record;
+}
+
 const char *event_refusal(const struct event *event, unsigned outcome)
 {
-    if (kinds[event->kind].apply != store_record)
+    if (!event_stores(event))
         return "that number is not equipped, or is of another kind";
     switch (outcome) {
-    case OSTURDAM_FILE_FULL: return "the file is full: nothing was stored";
+    case OSTURDAM_FILE_FULL: return "the file is full and drops none: nothing was stored";
     case OSTURDAM_NO_FILE: return "that file is not equipped";
     default: return "records of that file have another number of values";
     }

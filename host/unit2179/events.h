@@ -45,6 +45,9 @@ unsigned event_apply(const struct event *event, const struct osturdam_lent *lent
 
 const char *event_kind(const struct event *event);
 
+/* Whether it stores a record; its first figure is the file's number. */
+bool event_stores(const struct event *event);
+
 /* What a refusal means, in words. */
 const char *event_refusal(const struct event *event, unsigned outcome);
 

@@ -14,8 +14,9 @@
     PART(config.length, all.unit.config.length) PART(config.inputs, all.unit.config.inputs)                             \
     PART(config.outputs, all.unit.config.outputs) PART(config.calculations, all.unit.config.calculations)               \
     PART(config.files, all.unit.config.files) PART(config.values, all.unit.config.values)                               \
-    PART(numbers, all.unit.numbers) PART(words, all.unit.words) PART(results, all.unit.results)                         \
-    PART(fixed, all.unit.fixed) PART(counts, all.unit.counts) PART(block, all.block) PART(records, all.records)         \
+    PART(config.oldest, all.unit.config.oldest) PART(numbers, all.unit.numbers) PART(words, all.unit.words)             \
+    PART(results, all.unit.results) PART(fixed, all.unit.fixed) PART(counts, all.unit.counts)                           \
+    PART(dropped, all.unit.dropped) PART(block, all.block) PART(records, all.records)                                   \
     PART(journal.history, history) PART(journal.entry, entry)
 /* clang-format on */
 
@@ -29,6 +30,8 @@ static const struct region parts[] = {PARTS(ROW)};
 _Static_assert(sizeof parts / sizeof *parts == IMAGE_PARTS, "the image has room for each part");
 _Static_assert(0 PARTS(PLUS_LENGTH) == IMAGE_CHARS && sizeof(struct kept) == IMAGE_CHARS, "the parts are all that is kept");
 _Static_assert(1 PARTS(AND_NAMED), "a name and a 0 behind it fit");
+_Static_assert(offsetof(struct osturdam_config, oldest) + OSTURDAM_FILES == sizeof(struct osturdam_config),
+               "what makes a configuration another one stands before the marks");
 
 static struct kept whole; /* 40 KB, which a small stack may not have */
 
@@ -63,7 +66,7 @@ static bool is_records(const struct region *part)
 
 void image_order(struct image_order *order, const struct osturdam_config *config)
 {
-    *order = (struct image_order){.many = IMAGE_PARTS};
+    *order = (struct image_order){.many = IMAGE_PARTS, .version = IMAGE_VERSION};
     memcpy(order->parts, parts, sizeof parts);
     for (struct region *p = order->parts; p < order->parts + IMAGE_PARTS; p++) {
         if (is_records(p))
@@ -128,7 +131,7 @@ static const char *take(struct reading *r, const char *name, size_t many)
         return told("it has a part that no unit has, '%.*s'", text_in(name), name);
     if (r->taken[i])
         return told("it has the part '%s' twice", parts[i].name);
-    bool fewer = is_records(&parts[i]) && !r->order->older; /* how many there are to be is known when the configuration is */
+    bool fewer = is_records(&parts[i]) && r->order->version > OLDER_SLOTS; /* how many there are to be is known with the configuration */
     if ((fewer ? many > parts[i].many : many != parts[i].many) || many > (size_t)(r->end - r->at))
         return told("its part '%s' has not %zu characters", parts[i].name, parts[i].many);
     memcpy((uint8_t *)&whole + parts[i].at, r->at, many);
@@ -195,14 +198,13 @@ static const char *damage(const uint8_t *image, size_t many)
 static const char *misfit(const struct image_order *order, const struct osturdam_unit *expected)
 {
     const struct osturdam_unit *is = &whole.all.unit;
-    uint16_t layout = order->older ? OLDER_LAYOUT : OSTURDAM_LAYOUT;
     size_t asked = (size_t)osturdam_room_of(&expected->config);
-    if (osturdam_word_at(is->layout) != layout)
+    if (osturdam_word_at(is->layout) != older_layout(order->version))
         return told("it is of a unit with the layout %u", osturdam_word_at(is->layout));
-    if (memcmp(&is->config, &expected->config, sizeof is->config) != 0)
+    if (memcmp(&is->config, &expected->config, offsetof(struct osturdam_config, oldest)) != 0)
         return "it is of a unit with another configuration";
     for (const struct region *p = order->parts; p < order->parts + order->many; p++) {
-        if (is_records(p) && !order->older && p->many != asked)
+        if (is_records(p) && order->version > OLDER_SLOTS && p->many != asked)
             return told("its part '%s' has not %zu characters", p->name, asked);
     }
     return NULL;
@@ -217,11 +219,11 @@ const char *image_read(const uint8_t *image, size_t many, struct kept *kept, str
     if (version < 1 || version > IMAGE_VERSION)
         return told("it is of version %u", (unsigned)version);
     struct reading r = {.at = image + IMAGE_TITLE, .end = image + many - IMAGE_CHECK, .order = order};
-    *order = (struct image_order){.older = version <= OLDER_VERSION};
+    *order = (struct image_order){.version = (unsigned)version};
     whole = *kept;
     memset(&whole.all.unit.config, 0, sizeof whole.all.unit.config);
-    if (order->older)
-        osturdam_word_to(whole.all.unit.layout, OLDER_LAYOUT);
+    memset(whole.all.unit.config.oldest, 1, sizeof whole.all.unit.config.oldest); /* as every file did that does not say */
+    osturdam_word_to(whole.all.unit.layout, older_layout(order->version));
     wrong = version == 1 ? take_version_1(&r) : take_parts(&r);
     if (!wrong)
         wrong = misfit(order, &kept->all.unit);

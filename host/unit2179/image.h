@@ -4,9 +4,9 @@
  *
  * A part is its name (24, with 0 behind it), how many characters it has (4), and these. Numbers have their low character first. The parts
  * are the configuration's fields and the unit's regions as osturdam.h names them, and which entries of the journal come behind it; of
- * records there are as many characters as the configuration asks for. A field that is not there is 0, and a region that is not there is as a
- * fresh unit has it; so a version that adds one reads the files from before. The region `layout` says how the others are to be read, so one
- * with another number is refused. How records lay before version 4 is told in older.h. */
+ * records there are as many characters as the configuration asks for. A field that is not there is 0, but that every file then keeps the
+ * oldest, and a region that is not there is as a fresh unit has it; so a version that adds one reads the files from before. The region
+ * `layout` says how the others are to be read, so one with another number is refused. What versions before had is told in older.h. */
 #ifndef UNIT2179_IMAGE_H
 #define UNIT2179_IMAGE_H
 
@@ -16,12 +16,12 @@
 #include "osturdam.h"
 
 enum {
-    IMAGE_VERSION = 4,
+    IMAGE_VERSION = 5,
     IMAGE_NAME = 24,
     IMAGE_TITLE = 8 + 2 + 4,
     IMAGE_HEAD = IMAGE_NAME + 4,
     IMAGE_CHECK = 8,
-    IMAGE_REGIONS = 15, /* parts that a unit has */
+    IMAGE_REGIONS = 17, /* parts that a unit has */
     IMAGE_PARTS = IMAGE_REGIONS + 2,
     IMAGE_CHARS = sizeof(struct osturdam_together) + 16,                        /* of all parts: a unit has nothing between them */
     IMAGE = IMAGE_TITLE + IMAGE_PARTS * IMAGE_HEAD + IMAGE_CHARS + IMAGE_CHECK, /* the longest that is written */
@@ -45,7 +45,7 @@ struct region {
 struct image_order {
     size_t many;
     struct region parts[IMAGE_PARTS];
-    bool older; /* records lie there as older.h says */
+    unsigned version; /* of the file */
 };
 
 uint64_t number_at(const uint8_t *chars, size_t width);
@@ -60,8 +60,8 @@ void image_order(struct image_order *order, const struct osturdam_config *config
 /* Answers how many characters the image has. */
 size_t image_write(uint8_t image[IMAGE], const struct kept *kept);
 
-/* Reads an image, or one of a version before as it is, into a fresh unit, whose configuration must be the image's, and tells its parts'
- * order. Answers NULL, or what is wrong; then what is kept is as it was. */
+/* Reads an image, or one of a version before as it is, into a fresh unit, whose configuration must be the image's but for which files keep
+ * the oldest, and tells its parts' order. Answers NULL, or what is wrong; then what is kept is as it was. */
 const char *image_read(const uint8_t *image, size_t many, struct kept *kept, struct image_order *order);
 
 #endif

@@ -156,3 +156,12 @@ void log_event(const struct event *event, unsigned outcome)
     add(&t, "\t%u", outcome);
     put(&t);
 }
+
+void log_drop(uint8_t file, uint16_t dropped)
+{
+    struct text t = {.many = 0};
+    if (into < 0)
+        return;
+    add(&t, "D\t%u\t%u", file, dropped);
+    put(&t);
+}

@@ -19,17 +19,24 @@
 
 enum { EXIT_USAGE = 2, EXIT_CONFIG, EXIT_STATE, EXIT_LINE, EXIT_OUTPUT };
 
-enum { CONFIG_MOST = 65536, CONFIG_FAULTS = 32 };
+enum { CONFIG_MOST = 65536, CONFIG_NOTES = 32 };
 
 static struct osturdam_together all;
 static struct keeper keeper;
 static struct line line;
 
-/* Reads a configuration file; every line that is wrong is told. */
+static void tell(const char *path, const struct config_notes *notes)
+{
+    for (size_t i = 0; i < notes->many && i < notes->room; i++)
+        complain(&(struct place){path, notes->notes[i].line}, "%s", notes->notes[i].what);
+}
+
+/* Reads a configuration file; every line that is wrong is told, or where there is none every one that leaves something unsaid. */
 static bool read_config(const char *path, struct osturdam_config *config)
 {
     static char text[CONFIG_MOST + 1];
-    static struct config_fault faults[CONFIG_FAULTS];
+    static struct config_note faults[CONFIG_NOTES], notices[CONFIG_NOTES];
+    struct config_notes wrong = {.notes = faults, .room = CONFIG_NOTES}, unsaid = {.notes = notices, .room = CONFIG_NOTES};
     int file = open(path, O_RDONLY | O_CLOEXEC);
     long have = file < 0 ? -1 : read_whole(file, (uint8_t *)text, sizeof text);
     if (have < 0 || have > CONFIG_MOST)
@@ -38,10 +45,9 @@ static bool read_config(const char *path, struct osturdam_config *config)
         close(file);
     if (have < 0 || have > CONFIG_MOST)
         return false;
-    size_t wrong = config_read(text, (size_t)have, config, faults, CONFIG_FAULTS);
-    for (size_t i = 0; i < wrong && i < CONFIG_FAULTS; i++)
-        complain(&(struct place){path, faults[i].line}, "%s", faults[i].what);
-    return wrong == 0;
+    bool good = config_read(text, (size_t)have, config, &wrong, &unsaid);
+    tell(path, good ? &unsaid : &wrong);
+    return good;
 }
 
 /* A fresh unit of the configuration. */
@@ -61,6 +67,17 @@ static bool configure(const struct options *o)
     return true;
 }
 
+/* How many records each file has dropped, where it has any. */
+static void tell_dropped(const char *path)
+{
+    for (uint8_t file = 0; file < OSTURDAM_FILES; file++) {
+        unsigned dropped = osturdam_dropped_of(&all.unit, file);
+        if (dropped > 0)
+            complain(&(struct place){path, 0}, "records that file %u has dropped: %u%s", file, dropped,
+                     dropped == OSTURDAM_DROPPED ? " or more" : "");
+    }
+}
+
 /* The unit as it was kept, where it was. */
 static bool restore(const struct options *o, struct store *store)
 {
@@ -72,6 +89,7 @@ static bool restore(const struct options *o, struct store *store)
         return false;
     all = keeper.kept.all;
     fprintf(stderr, "unit2179: %s: %s\n", o->state, found ? "the kept state goes on" : "a fresh unit");
+    tell_dropped(o->state);
     return true;
 }
 

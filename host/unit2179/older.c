@@ -15,12 +15,25 @@ static void repack_file(const struct osturdam_together *all, uint8_t file)
                osturdam_record_length(c, file));
 }
 
-void older_repack(struct kept *kept)
+static void repack(struct osturdam_together *all)
 {
     memset(packed, 0, sizeof packed);
     for (uint8_t file = 0; file < OSTURDAM_FILES; file++)
-        repack_file(&kept->all, file);
-    memcpy(kept->all.records, packed, sizeof packed);
+        repack_file(all, file);
+    memcpy(all->records, packed, sizeof packed);
+}
+
+uint16_t older_layout(unsigned version)
+{
+    return version <= OLDER_SLOTS ? 1 : version <= OLDER_UNMARKED ? 2 : OSTURDAM_LAYOUT;
+}
+
+void older_bring(struct kept *kept, unsigned version)
+{
+    if (version == IMAGE_VERSION)
+        return;
+    if (version <= OLDER_SLOTS)
+        repack(&kept->all);
     osturdam_word_to(kept->all.unit.layout, OSTURDAM_LAYOUT);
     memset(kept->history, 0, sizeof kept->history);
 }

@@ -1,14 +1,22 @@
-/* What files of versions before 4 have: a unit of another layout, in which every history file, equipped or not, had as many slots of the
- * longest record. */
+/* What files of versions before this one have. In version 4: a unit of layout 2, of which every file kept the oldest and none dropped a
+ * record. Before that: a unit of layout 1, in which besides every history file, equipped or not, had as many slots of the longest record. */
 #ifndef UNIT2179_OLDER_H
 #define UNIT2179_OLDER_H
 
 #include "image.h"
 
-enum { OLDER_VERSION = 3, OLDER_LAYOUT = 1, OLDER_SLOT = 38, OLDER_RECORDS = OSTURDAM_FILES * OSTURDAM_ROOM * OLDER_SLOT };
+enum {
+    OLDER_SLOTS = 3,    /* the last version with such slots */
+    OLDER_UNMARKED = 4, /* the last in which no file dropped a record */
+    OLDER_SLOT = 38,
+    OLDER_RECORDS = OSTURDAM_FILES * OSTURDAM_ROOM * OLDER_SLOT
+};
 
-/* Lays the records of such a unit, with all that its journal has, to where they lie now. Its history ends: no entry that names a place as
- * it was is ever taken for one of the unit that goes on. */
-void older_repack(struct kept *kept);
+/* The layout of the unit in a file of some version. */
+uint16_t older_layout(unsigned version);
+
+/* Brings such a unit, with all that its journal has, to how it lies now. Its history ends: no entry that names a place as it was is ever
+ * taken for one of the unit that goes on. */
+void older_bring(struct kept *kept, unsigned version);
 
 #endif

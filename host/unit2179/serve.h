@@ -37,6 +37,7 @@ struct server {
     struct answer answer;
     struct event event;
     unsigned outcome;                /* of the event */
+    bool full;                       /* it stores into a file that was full: one that takes its record drops another */
     size_t next;                     /* the channel that is heard first */
     bool heard;                      /* the latest turn was a stretch's */
     struct channel *owners[MASTERS]; /* the connection that has each master's number, or NULL */

@@ -130,10 +130,21 @@ static const char *replayed(struct store *store, const struct image_order *order
     return wrong;
 }
 
+/* Which files keep the oldest is for the configuration to say that is given now: any state goes on with that, and where it is new it is told. */
+static void mark(const struct place *at, struct osturdam_config *kept, const struct osturdam_config *given)
+{
+    for (uint8_t file = 0; file < OSTURDAM_FILES; file++) {
+        if (osturdam_has_file(given, file) && osturdam_keeps_oldest(kept, file) != osturdam_keeps_oldest(given, file))
+            complain(at, "file %u keeps the %s from now on", file, osturdam_keeps_oldest(given, file) ? "oldest" : "newest");
+    }
+    memcpy(kept->oldest, given->oldest, sizeof kept->oldest);
+}
+
 bool store_load(struct store *store, struct kept *kept, bool *found)
 {
     static uint8_t room[IMAGE_MOST];
     struct image_order order;
+    struct osturdam_config given = kept->all.unit.config;
     struct osturdam_lent lent = osturdam_lend(&kept->all, &kept->all.unit.config);
     int file = open(store->path, O_RDONLY | O_CLOEXEC | O_NOFOLLOW);
     *found = file >= 0;
@@ -145,12 +156,14 @@ bool store_load(struct store *store, struct kept *kept, bool *found)
         close(file);
     if (!wrong)
         wrong = replayed(store, &order, kept);
-    if (!wrong && order.older)
-        older_repack(kept);
+    if (!wrong)
+        older_bring(kept, order.version);
     if (!wrong && osturdam_wait(&lent, 0) == OSTURDAM_NOT_CONFIGURED)
         wrong = "it has a number that no unit keeps";
     if (wrong)
         complain(&store->at, "the state cannot be used: %s (--fresh begins anew and gives it up)", wrong);
+    else
+        mark(&store->at, &kept->all.unit.config, &given);
     return !wrong;
 }
 

@@ -28,8 +28,8 @@ struct store {
 bool store_open(struct store *store, const char *path);
 void store_close(struct store *store);
 
-/* Reads into a fresh unit, and brings one of a version before to how it is kept now. false: what is there is not whole, is of another configuration or is no state of a unit, which was told.
- * Where no file is, *found is false and the unit is untouched. */
+/* Reads into a fresh unit, and brings one of a version before to how it is kept now. false: what is there is not whole, is of another
+ * configuration or is no state of a unit, which was told. Where no file is, *found is false and the unit is untouched. */
 bool store_load(struct store *store, struct kept *kept, bool *found);
 
 /* The calls below answer false where the disk fails, and errno tells how. They tell nothing, since a thread of its own may make them. */

@@ -83,6 +83,7 @@ enum served turn_take(struct server *s, const struct event *event)
     turn_pass_time(s);
     memcpy(before, s->all->unit.numbers, sizeof before);
     s->event = *event;
+    s->full = event_stores(event) && osturdam_count_of(&s->all->unit, (uint8_t)event->figures[0]) == OSTURDAM_ROOM;
     s->outcome = event_apply(event, &s->lent);
     return turn_begun(s, AN_EVENT_WAITS, before);
 }
@@ -140,6 +141,8 @@ static enum served end_event(struct server *s)
     log_event(&s->event, s->outcome);
     if (s->outcome != OSTURDAM_DONE)
         complain(&s->events->at, "%s", event_refusal(&s->event, s->outcome));
+    else if (s->full)
+        log_drop((uint8_t)s->event.figures[0], osturdam_dropped_of(&s->all->unit, (uint8_t)s->event.figures[0]));
     return SERVE_GOES_ON;
 }
 

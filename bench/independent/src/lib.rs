@@ -14,6 +14,7 @@ pub struct CConfig {
     calculations: [u8; 256],
     files: [u8; 32],
     values: [u8; 32],
+    oldest: [u8; 32],
 }
 
 /// How a stretch ended, as C lays it out: `struct plain_turned`.
@@ -40,6 +41,7 @@ fn config(c: &CConfig) -> Config {
     for (file, values) in config.files.iter_mut().enumerate() {
         *values = (c.files[file] != 0).then_some(c.values[file]);
     }
+    config.oldest = c.oldest.map(|keeps| keeps != 0);
     config.parameter_length = c.length;
     config
 }

@@ -7,11 +7,12 @@ use Rattle.chars.specs.Put.{put}
 use Rattle.chars.specs.Word.{word, wordAt}
 use Rattle.model.specs.Bench.{benchConfig}
 use Rattle.layout.specs.Regions.{startIn, regionIn}
+use Rattle.layout.proofs.UnitLaws.{configFigure}
 use Rattle.layout.specs.Unit.{configFrom, configGiven, nameUnit, equipInput}
 
-computed : configGiven (equipInput (equipInput (nameUnit (replicate 836 0) 1234) 0x30) 0x40) ≡ benchConfig
+computed : configGiven (equipInput (equipInput (nameUnit (replicate configFigure 0) 1234) 0x30) 0x40) ≡ benchConfig
 unfolding put word wordAt benchConfig startIn regionIn configFrom
 computed = refl
 
-pub bench-given : {a b r : List ℕ} → a ≡ nameUnit (replicate 836 0) 1234 → b ≡ equipInput a 0x30 → r ≡ equipInput b 0x40 → configGiven r ≡ benchConfig
+pub bench-given : {a b r : List ℕ} → a ≡ nameUnit (replicate configFigure 0) 1234 → b ≡ equipInput a 0x30 → r ≡ equipInput b 0x40 → configGiven r ≡ benchConfig
 bench-given e f g = ap configGiven (g ∙ ap (λ (l : List ℕ). equipInput l 0x40) (f ∙ ap (λ (l : List ℕ). equipInput l 0x30) e)) ∙ computed

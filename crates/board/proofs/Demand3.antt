@@ -2,11 +2,12 @@
 use Prim.Native.Nat.{ℕ, _≤_}
 use mathlib.Core.Path.{_≡_, refl, sym, ap, ap₂, _∙_}
 use mathlib.Core.List.{List, [], _∷_, _++_, map}
-use lib.ListN.{length}
+use lib.ListN.{length, getD}
 use Rattle.model.specs.Config.{Config}
 use Rattle.model.specs.State.{Inner, State, heldIn, freshOf}
 use Rattle.model.specs.Event.{Stretch, Event, stretch}
 use Rattle.model.specs.Run.{Entry, Result, resultOf, nextOf, entryOf, afterFrom, traceFrom, after, trace}
+use Rattle.model.specs.Demand3.{droppedBy}
 use Rattle.model.specs.Damage.{Damaged, AlikeEntry, AlikeTrace, none, more}
 use Rattle.model.proofs.Damage.{damage, after-append, trace-append}
 use Rattle.model.proofs.Demand3.{demand-3}
@@ -15,7 +16,7 @@ use Rattle.layout.specs.Kept.{Kept, Owned, keptIn, stateOf}
 use Rattle.unit.specs.Calls.{results}
 use Rattle.board.specs.Told.{actionNumber, outputNumber}
 use Rattle.board.specs.Runs.{Numbered, numbered}
-use Rattle.board.specs.Demand3.{Called, innerLent, heldLent, AlikeShown, AlikeRun, none as noneShown, more as moreShown, UnseenCall, Accounts, AccountsFor, CallsDemand3}
+use Rattle.board.specs.Demand3.{Called, innerLent, heldLent, droppedLent, AlikeShown, AlikeRun, none as noneShown, more as moreShown, UnseenCall, Accounts, AccountsFor, CallsDemand3}
 use Rattle.board.proofs.RunLaws.{run-config, run-after, run-trace, run-taken}
 
 -- ---- what entries show, in numbers
@@ -56,6 +57,9 @@ module _ (cs : List ℕ) {es : List Event} {xs : List Numbered} {y : Owned} (r :
   held-is : (g : ℕ) → heldLent y g ≡ heldIn (after (configGiven cs) es .inner .history .files) g
   unfolding heldLent
   held-is g = ap (λ (i : Inner). heldIn (i .history .files) g) inner-is
+
+  dropped-is : (g : ℕ) → droppedLent y g ≡ droppedBy (after (configGiven cs) es) g
+  dropped-is g = ap (λ (s : State). getD (s .inner .history .dropped) g 0) state-is
 
 -- ---- a damaged stretch among calls
 
@@ -102,7 +106,10 @@ module _ (cs : List ℕ) {es : List Event} {xs : List Numbered} {y : Owned} (r :
   accounts =
       record {
         shown = shown-is cs r;
-        records = λ g. rw (held-is cs r g) (demand-3 (configGiven cs) .records es g);
+        stored = λ g. demand-3 (configGiven cs) .records es g .stored;
+        records = λ g. rw (held-is cs r g) (demand-3 (configGiven cs) .records es g .left);
+        dropped = λ g. dropped-is cs r g ∙ demand-3 (configGiven cs) .records es g .counted;
+        oldest = λ g m. rw (held-is cs r g) (demand-3 (configGiven cs) .oldest es g m);
         memory = rw (inner-is cs r) (demand-3 (configGiven cs) .memory es);
       }
 
@@ -113,6 +120,7 @@ module _ (cs : List ℕ) {es : List Event} {xs : List Numbered} {y : Owned} (r :
       record {
         balance = rw (held-is cs r g, inner-is cs r, held-is cs q g, after-append (configGiven cs) (freshOf (configGiven cs)) es (e ∷ [])) (a .balance);
         release = a .release;
+        dropping = λ d. rw (held-is cs r g) (a .dropping d);
       }
 
 -- THE THEOREM

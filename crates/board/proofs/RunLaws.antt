@@ -16,7 +16,7 @@ use Rattle.model.specs.Run.{Result, short, turnedAway, shows, resultOf, nextOf,
 use Rattle.model.specs.declared.Outcome.the-variants.{NotConfigured}
 use Rattle.model.specs.declared.Answer.{Answer}
 use Rattle.model.specs.declared.Answer.the-variants.{Ended, Storing}
-use Rattle.model.specs.declared.Stored.the-variants.{Kept as KeptRecord, Full, NotEquipped, WrongValues}
+use Rattle.model.specs.declared.Stored.the-variants.{Kept as KeptRecord, Swapped, Full, NotEquipped, WrongValues}
 use Rattle.model.proofs.Conditions.{by-bool}
 use Rattle.model.proofs.TurnedAway.{short-away, works, made-row}
 use Rattle.model.proofs.Valid.{fresh-fits, step-fits}
@@ -61,6 +61,7 @@ runs-as {y = z} e (heeded {y = y} {es = es} l a rest) =
 answer-row : (c : Config) (s : State) (e : Event) (a : Answer) → makeOf c (s .inner) e .answer ≡ a → answerNumber a ≡ 17 → ⊥
 answer-row c s e (Ended o) h n = omega (arith, made-row c (s .inner) e o h)
 answer-row c s e (Storing KeptRecord) h n = omega arith
+answer-row c s e (Storing Swapped) h n = omega arith
 answer-row c s e (Storing Full) h n = omega arith
 answer-row c s e (Storing NotEquipped) h n = omega arith
 answer-row c s e (Storing WrongValues) h n = omega arith

@@ -18,6 +18,7 @@ use Rattle.board.proofs.osturdam_layout.Reads as osturdam-layout
 use Rattle.board.proofs.osturdam_check.Reads as osturdam-check
 use Rattle.board.proofs.osturdam_valid.Reads as osturdam-valid
 use Rattle.board.proofs.osturdam_room.Reads as osturdam-room
+use Rattle.board.proofs.osturdam_dropped.Reads as osturdam-dropped
 use Rattle.board.proofs.osturdam_fresh.Reads as osturdam-fresh
 use Rattle.board.proofs.osturdam_stretch.Reads as osturdam-stretch
 use Rattle.board.proofs.osturdam_elapsed.Reads as osturdam-elapsed
@@ -56,6 +57,9 @@ one-osturdam-valid κ a x y s t p q = p ∙ sym q
 
 pub one-osturdam-room : One osturdam-room.Post (λ κ r s. r)
 one-osturdam-room κ a x y s t p q = p ∙ sym q
+
+pub one-osturdam-dropped : One osturdam-dropped.Post (λ κ r s. r)
+one-osturdam-dropped κ a x y s t p q = p ∙ sym q
 
 pub one-osturdam-fresh-unit : OneWhere (λ κ a s. (length (s .0 .now) ≡ unitLong) × Characters (s .0 .now)) osturdam-fresh.Post (λ κ r s. s .0 .now)
 one-osturdam-fresh-unit κ a x y s t g h p q = one-laid _ _ (g .0) (h .0) (g .1) (h .1) p q .0

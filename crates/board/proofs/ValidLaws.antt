@@ -43,7 +43,7 @@ fresh-taken cs {n} {lent} {room} {u} f l r =
     rw (eq-eqb _ _ (ap (λ (y : Unit). y .layout) x), le-leb (roomOf (configIn u)) room (omega arith), e)
     ((λ i. fitsBy (x i .config) (b i) (x i .counts) (coreIn (x i .numbers)) (memoryIn (x i .numbers)) (portIn (x i .numbers)))
     ∙ (λ i. fitsBy c (c .block) (replicate 32 0) (w .core i) (w .memory i) (w .port i))
-    ∙ fits-by c (c .block) (replicate 32 0) freshCore Nothing freshPort (freshAreas c) (replicate 32 []) (length-replicate {A = ℕ} (c .block) 0) (λ g h. none-held 32 g)
+    ∙ fits-by c (c .block) (replicate 32 0) freshCore Nothing freshPort (freshAreas c) (replicate 32 []) (replicate 32 0) (length-replicate {A = ℕ} (c .block) 0) (λ g h. none-held 32 g)
     ∙ fresh-valid c)
 
 module _ (cs : List ℕ) {n lent room : ℕ} {u bl : List ℕ} (f : FreshPromise cs n u bl) (l : lent ≡ configIn u .block) (r : room ≡ roomOf (configIn u)) where

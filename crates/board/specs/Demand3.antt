@@ -1,18 +1,19 @@
 -- Demand 3 of runs of calls from C: each from a fresh unit, with block and room as its configuration asks, on what the call before left.
-use Prim.Native.Nat.{ℕ, _≤_}
+use Prim.Native.Nat.{ℕ, _≤_, min}
 use mathlib.Core.Path.{_≡_}
 use mathlib.Core.List.{List, [], _∷_, _++_, map}
 use mathlib.Core.Bool.{true}
-use lib.ListN.{length}
-use Rattle.model.specs.Config.{Config, validOf}
+use lib.ListN.{length, getD}
+use Rattle.model.specs.Limits.{mostDropped}
+use Rattle.model.specs.Config.{Config, validOf, keepsOldest}
 use Rattle.model.specs.State.{Inner, heldIn}
 use Rattle.model.specs.Event.{Stretch, Event, stretch}
 use Rattle.model.specs.Run.{resultOf, entryOf, after, trace}
 use Rattle.model.specs.Formed.{AllGiven}
-use Rattle.model.specs.Line.{shown, releasedBy, storedBy, storedIn, latestIn, releasedIn}
+use Rattle.model.specs.Line.{shown, releasedBy, storedBy, storedIn, latestIn, releasedIn, lotsStored, lotsStanding, lotsDropped, dropsBy, sparedBy, ledgerIn}
 use Rattle.model.specs.Damage.{Damaged, AlikeReply}
-use Rattle.model.specs.Demand3.{Acknowledged, rememberedAs}
-use Rattle.layout.specs.Unit.{configIn, configGiven}
+use Rattle.model.specs.Demand3.{Acknowledged, without, Drop, rememberedAs}
+use Rattle.layout.specs.Unit.{unitIn, configIn, configGiven}
 use Rattle.layout.specs.Records.{roomOf}
 use Rattle.layout.specs.Kept.{Owned, ownedOf, keptIn, stateOf}
 use Rattle.unit.specs.Fresh.{FreshPromise}
@@ -34,6 +35,10 @@ innerLent y = stateOf (configIn (y .unit)) (keptIn y) .inner
 
 unfoldable pub heldLent : Owned → ℕ → List (List ℕ)
 heldLent y g = heldIn (innerLent y .history .files) g
+
+-- how many records of file g it has dropped, as `osturdam_dropped` tells
+abbrev pub droppedLent : Owned → ℕ → ℕ
+droppedLent y g = getD (unitIn (y .unit) .dropped) g 0
 
 -- ---- damage
 
@@ -64,20 +69,27 @@ pub record UnseenCall (xs ys : List Numbered) (y z : Owned) : Type 0 where
 
 -- ---- records
 
--- calls that showed xs and left y: what they showed is the definition's trace in numbers, the records stored are those released and then
--- those in the memory left, and the reply that this remembers is the latest on the line
+-- calls that showed xs and left y: what they showed is the definition's trace in numbers, the records stored, with those dropped struck out,
+-- are those released and then those in the memory left, which tells how many were dropped, and the reply that this remembers is the latest
+-- on the line
 pub record Accounts (c : Config) (es : List Event) (xs : List Numbered) (y : Owned) : Type 0 where
   pub shown : xs ≡ map numbered (results (trace c es))
-  pub records : (g : ℕ) → storedIn (trace c es) g ≡ releasedIn c (trace c es) g ++ heldLent y g
+  pub stored : (g : ℕ) → lotsStored (ledgerIn c (trace c es) g) ≡ storedIn (trace c es) g
+  pub records : (g : ℕ) → lotsStanding (ledgerIn c (trace c es) g) ≡ releasedIn c (trace c es) g ++ heldLent y g
+  pub dropped : (g : ℕ) → droppedLent y g ≡ min (length (lotsDropped (ledgerIn c (trace c es) g))) mostDropped
+  pub oldest : (g : ℕ) → keepsOldest c g ≡ true → storedIn (trace c es) g ≡ releasedIn c (trace c es) g ++ heldLent y g
   pub memory : latestIn c (trace c es) ≡ rememberedAs (innerLent y .history .memory) (innerLent y .history .files)
 
--- one call more, for the event e, on the memory y, that left z: what file g held, and what is stored now, is what is released now, and
--- what it holds then; and a release is of what the latest history reply had given the master that acknowledges it
+-- one call more, for the event e, on the memory y, that left z: what file g held without what is dropped now, and what is stored now, is what
+-- is released now, and what it holds then; a release is of what the latest history reply had given the master that acknowledges it, and a
+-- drop of none that it had given
 pub record AccountsFor (c : Config) (es : List Event) (e : Event) (y z : Owned) (g : ℕ) : Type 0 where
-  pub balance : heldLent y g ++ storedBy e (innerLent y .core .clock) (resultOf c (after c es) e .answer) g
+  pub balance : without (dropsBy e (resultOf c (after c es) e .answer) g) (length (sparedBy (latestIn c (trace c es)) g)) (heldLent y g)
+      ++ storedBy e (innerLent y .core .clock) (resultOf c (after c es) e .answer) g
       ≡ releasedBy (latestIn c (trace c es)) (shown c (entryOf c (after c es) e)) g ++ heldLent z g
   pub release : (releasedBy (latestIn c (trace c es)) (shown c (entryOf c (after c es) e)) g ≡ [] → ⊥)
       → Acknowledged c (latestIn c (trace c es)) (entryOf c (after c es) e) g
+  pub dropping : dropsBy e (resultOf c (after c es) e .answer) g ≡ true → Drop c (latestIn c (trace c es)) (heldLent y g) g
 
 -- ---- the demand
 

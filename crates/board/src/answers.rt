@@ -13,6 +13,7 @@ fn stored_number(stored: Stored) -> u8
 {
     match stored {
         Stored::Kept => 0,
+        Stored::Swapped => 0,
         Stored::Full => 1,
         Stored::NotEquipped => 2,
         Stored::WrongValues => 3,

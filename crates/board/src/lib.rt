@@ -15,11 +15,11 @@ use model::Input;
 use model::SpecialCalculation;
 ghost use mathlib.Core.Path.{_≡_};
 ghost use mathlib.Core.Bool.{cond};
-ghost use lib.ListN.{length};
+ghost use lib.ListN.{length, getD};
 ghost use Rattle.checkword.specs.Check.{checkFrom};
 ghost use Rattle.model.specs.Config.{validOf};
 ghost use Rattle.model.specs.Event.{elapsed, setWord, setValue, pulses, store, local};
-ghost use Rattle.layout.specs.Unit.{layoutNumber, configGiven};
+ghost use Rattle.layout.specs.Unit.{layoutNumber, unitIn, configGiven};
 ghost use Rattle.layout.specs.Records.{roomOf};
 ghost use Rattle.layout.specs.Kept.{ownedOf};
 ghost use Rattle.unit.specs.Fresh.{FreshPromise};
@@ -63,6 +63,14 @@ pub extern "C" fn osturdam_room(config: &[u8; CONFIG]) -> u64
     ensures { λ r. ⌜ r ≡ roomOf (configGiven (now (config .entry))) ⌝ }
 {
     layout::room_asked(config) as u64
+}
+
+// How many records of a file the unit has dropped, up to 65,535 where it stays; none of a file over 31.
+#[no_mangle]
+pub extern "C" fn osturdam_dropped(unit: &[u8; UNIT], file: u8) -> u16
+    ensures { λ r. ⌜ r ≡ getD (unitIn (now (unit .entry)) .dropped) file 0 ⌝ }
+{
+    layout::dropped_of(unit, File(file))
 }
 
 #[no_mangle]

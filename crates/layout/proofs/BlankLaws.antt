@@ -25,11 +25,13 @@ use Rattle.layout.specs.Unit.{
   calculationsRegion,
   filesRegion,
   valuesRegion,
+  oldestRegion,
   numbersRegion,
   wordsRegion,
   resultsRegion,
   fixedRegion,
   countsRegion,
+  droppedRegion,
   wordsIn,
   resultsIn,
   configFrom,
@@ -40,6 +42,7 @@ use Rattle.layout.specs.Unit.{
   blankOf,
 }
 use Rattle.layout.proofs.RegionLaws.{region-part}
+use Rattle.layout.proofs.UnitLaws.{unitFigure, configFigure}
 
 written-part : (xs cs : List ℕ) (at : ℕ) → at + length cs ≤ length xs → part (put xs at cs) at (length cs) ≡ cs
 unfolding part
@@ -84,18 +87,18 @@ blank-long cs =
     length-put (put (replicate unitLong 0) (regionStart layoutRegion) (word layoutNumber)) (regionStart numberRegion) cs
     ∙ length-put (replicate unitLong 0) (regionStart layoutRegion) (word layoutNumber) ∙ length-replicate {A = ℕ} unitLong 0
 
--- CONFIG and UNIT of src/lib.rt are these numbers
-pub blank-laid : (cs : List ℕ) {u v : List ℕ} → length cs ≡ 836 → u ≡ put (replicate 2474 0) 0 (word layoutNumber) → v ≡ put u 2 (part cs 0 836) → v ≡ blankUnit cs
+-- CONFIG and UNIT of src/lib.rt
+pub blank-laid : (cs : List ℕ) {u v : List ℕ} → length cs ≡ configFigure → u ≡ put (replicate unitFigure 0) 0 (word layoutNumber) → v ≡ put u 2 (part cs 0 configFigure) → v ≡ blankUnit cs
 unfolding blankUnit startIn unitSizes
-blank-laid cs l e f = f ∙ (λ i. put (e i) 2 (part-whole cs 836 (sym l) i))
+blank-laid cs l e f = f ∙ (λ i. put (e i) 2 (part-whole cs configFigure (sym l) i))
 
 module _ (cs : List ℕ) (long : length cs ≡ configLong) where
   front : regionIn unitSizes (blankUnit cs) layoutRegion ≡ word layoutNumber
   unfolding blankUnit regionIn unitSizes startIn
   front =
-      take-put 2 (put (replicate 2474 0) 0 (word layoutNumber)) 2 cs (lit≤ tt)
-      ∙ ap (λ (n : ℕ). take n (put (replicate 2474 0) 0 (word layoutNumber))) (sym (length-word layoutNumber))
-      ∙ take-put-front (replicate 2474 0) (word layoutNumber) (omega (arith, length-word layoutNumber, length-replicate {A = ℕ} 2474 0))
+      take-put 2 (put (replicate unitFigure 0) 0 (word layoutNumber)) 2 cs (lit≤ tt)
+      ∙ ap (λ (n : ℕ). take n (put (replicate unitFigure 0) 0 (word layoutNumber))) (sym (length-word layoutNumber))
+      ∙ take-put-front (replicate unitFigure 0) (word layoutNumber) (omega (arith, length-word layoutNumber, length-replicate {A = ℕ} unitFigure 0))
 
   inner : (k : ℕ) → k < length unitSizes → k < length (0 ∷ configSizes) → regionStart k ≡ 2 + startIn (0 ∷ configSizes) k → getD unitSizes k 0 ≡ getD (0 ∷ configSizes) k 0
       → startIn (0 ∷ configSizes) k + getD (0 ∷ configSizes) k 0 ≤ configLong → regionStart numberRegion ≡ 2 → 2 + configLong ≤ unitLong
@@ -126,6 +129,7 @@ module _ (cs : List ℕ) (long : length cs ≡ configLong) where
         calculations = inner calculationsRegion (lit< tt) (lit< tt) refl refl (lit≤ tt) refl (lit≤ tt) i;
         files = inner filesRegion (lit< tt) (lit< tt) refl refl (lit≤ tt) refl (lit≤ tt) i;
         values = inner valuesRegion (lit< tt) (lit< tt) refl refl (lit≤ tt) refl (lit≤ tt) i;
+        oldest = inner oldestRegion (lit< tt) (lit< tt) refl refl (lit≤ tt) refl (lit≤ tt) i;
         block = wordAt (inner lengthRegion (lit< tt) (lit< tt) refl refl (lit≤ tt) refl (lit≤ tt) i) 0;
       }
 
@@ -144,4 +148,5 @@ module _ (cs : List ℕ) (long : length cs ≡ configLong) where
         values = (ap resultsIn (back resultsRegion (lit< tt) refl refl (lit≤ tt) (lit≤ tt)) ∙ zero-results 128) i;
         fixed = back fixedRegion (lit< tt) refl refl (lit≤ tt) (lit≤ tt) i;
         counts = back countsRegion (lit< tt) refl refl (lit≤ tt) (lit≤ tt) i;
+        dropped = (ap wordsIn (back droppedRegion (lit< tt) refl refl (lit≤ tt) (lit≤ tt)) ∙ zero-words 32) i;
       }

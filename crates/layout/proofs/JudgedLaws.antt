@@ -178,26 +178,26 @@ module _ (c : Config) (fs gs : Files) (same : (f : ℕ) → f < 32 → length (h
   memory-same Nothing = refl
   memory-same (Remembered t) = reply-same t
 
-  history-same : (m : Memory) → historyFits c (record { memory = m; files = fs }) ≡ historyFits c (record { memory = m; files = gs })
+  history-same : (m : Memory) (ns ms : List ℕ) → historyFits c (record { memory = m; files = fs; dropped = ns }) ≡ historyFits c (record { memory = m; files = gs; dropped = ms })
   unfolding historyFits
-  history-same m = rw (every-same (fileFits c fs) (fileFits c gs) 32 file-same, memory-same m)
+  history-same m ns ms = rw (every-same (fileFits c fs) (fileFits c gs) 32 file-same, memory-same m)
 
 -- the parts of the judgement, in their order
 fits-parts : (c : Config) (lent : ℕ) (counts : List ℕ) (core : Core) (memory : Memory) (port : Port)
     → fitsBy c lent counts core memory port
-    ≡ (validOf c && (portFits port && (coreFits c core && (eqb lent (c .block) && historyFits c (record { memory = memory; files = filesBy counts })))))
+    ≡ (validOf c && (portFits port && (coreFits c core && (eqb lent (c .block) && historyFits c (record { memory = memory; files = filesBy counts; dropped = [] })))))
 unfolding fitsBy keptBy fits areasFit
 fits-parts c lent counts core memory port = rw (length-replicate {A = ℕ} lent 0)
 
 -- judged by the counts, a unit that holds so many records is judged as by its records
-pub fits-by : (c : Config) (lent : ℕ) (counts : List ℕ) (core : Core) (memory : Memory) (port : Port) (areas : Areas) (fs : Files)
+pub fits-by : (c : Config) (lent : ℕ) (counts : List ℕ) (core : Core) (memory : Memory) (port : Port) (areas : Areas) (fs : Files) (dropped : List ℕ)
     → length (areas .block) ≡ lent
     → ((f : ℕ) → f < 32 → length (heldIn fs f) ≡ getD counts f 0)
     → fitsBy c lent counts core memory port
-    ≡ fits c (record { inner = record { core = core; areas = areas; history = record { memory = memory; files = fs } }; port = port })
+    ≡ fits c (record { inner = record { core = core; areas = areas; history = record { memory = memory; files = fs; dropped = dropped } }; port = port })
 unfolding fits areasFit
-fits-by c lent counts core memory port areas fs e same =
-    rw (fits-parts, e, history-same c fs (filesBy counts) (λ f h. same f h ∙ sym (held-by counts f)) memory)
+fits-by c lent counts core memory port areas fs dropped e same =
+    rw (fits-parts, e, history-same c fs (filesBy counts) (λ f h. same f h ∙ sym (held-by counts f)) memory dropped [])
 
 -- ---- numbers in place of what they mean
 

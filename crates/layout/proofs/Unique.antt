@@ -19,6 +19,9 @@ use Rattle.layout.proofs.files.has_file.Reads as has-file
 use Rattle.layout.proofs.files.values_of.Reads as values-of
 use Rattle.layout.proofs.files.count_of.Reads as count-of
 use Rattle.layout.proofs.files.put_count.Reads as put-count
+use Rattle.layout.proofs.files.keeps_oldest.Reads as keeps-oldest
+use Rattle.layout.proofs.files.dropped_of.Reads as dropped-of
+use Rattle.layout.proofs.files.put_dropped.Reads as put-dropped
 use Rattle.layout.proofs.judged.fits.Reads as fits
 use Rattle.layout.proofs.told.Reads as told
 use Rattle.layout.proofs.memory.dump_most.Reads as dump-most
@@ -107,6 +110,15 @@ one-count-of κ a x y s t p q = p ∙ sym q
 
 pub one-put-count-unit : One put-count.Post (λ κ r s. s .0 .now)
 one-put-count-unit κ a x y s t p q = p ∙ sym q
+
+pub one-keeps-oldest : One keeps-oldest.Post (λ κ r s. r)
+one-keeps-oldest κ a x y s t p q = p ∙ sym q
+
+pub one-dropped-of : One dropped-of.Post (λ κ r s. r)
+one-dropped-of κ a x y s t p q = p ∙ sym q
+
+pub one-put-dropped-unit : One put-dropped.Post (λ κ r s. s .0 .now)
+one-put-dropped-unit κ a x y s t p q = p ∙ sym q
 
 pub one-fits : One fits.Post (λ κ r s. r)
 one-fits κ a x y s t p q = p ∙ sym q

@@ -14,12 +14,16 @@ use Rattle.chars.proofs.PutLaws.{length-put, put-none, put-one}
 use Rattle.chars.proofs.WordLaws.{length-word, length-value}
 use Rattle.model.specs.Config.{Config}
 use Rattle.layout.specs.Regions.{startIn, regionIn, setAt}
-use Rattle.layout.specs.Unit.{Unit, Renumbered, NumbersOnly, numbersIn, unitSizes, unitLong, regionStart, layoutRegion, numberRegion, lengthRegion, inputsRegion, outputsRegion, calculationsRegion, filesRegion, valuesRegion, numbersRegion, wordsRegion, resultsRegion, fixedRegion, countsRegion, wordsIn, resultsIn, configFrom, unitFrom, unitIn, configIn, setNumbers, setWords, setValues, setFixed, setCounts, putIn, putNumber, putWord, putValue, putFixed, putCount, putCounts}
+use Rattle.layout.specs.Unit.{Unit, Renumbered, NumbersOnly, numbersIn, unitSizes, unitLong, regionStart, layoutRegion, numberRegion, lengthRegion, inputsRegion, outputsRegion, calculationsRegion, filesRegion, valuesRegion, oldestRegion, numbersRegion, wordsRegion, resultsRegion, fixedRegion, countsRegion, droppedRegion, wordsIn, resultsIn, configFrom, unitFrom, unitIn, configIn, setNumbers, setWords, setValues, setFixed, setCounts, setDropped, putIn, putNumber, putWord, putValue, putFixed, putCount, putCounts, putDropped}
 use Rattle.layout.proofs.RegionLaws.{regions-put, region-whole, region-at, region-past, region-part, region-own, region-most}
 
 -- how long a lent unit is: UNIT of src/lib.rt, as the prover tells the length of an array
 abbrev pub unitFigure : ℕ
-unitFigure = 2474
+unitFigure = 2570
+
+-- and a configuration: CONFIG
+abbrev pub configFigure : ℕ
+configFigure = 868
 
 pub unit-long : (u : List ℕ) → length u ≡ unitFigure → length u ≡ unitLong
 unfolding startIn unitSizes
@@ -76,6 +80,10 @@ module _ (r : ℕ → List ℕ) (x : List ℕ) where
   unit-counts : unitFrom (setAt r countsRegion x) ≡ setCounts (unitFrom r) x
   unfolding unitFrom configFrom setAt
   unit-counts = refl
+
+  unit-dropped : unitFrom (setAt r droppedRegion x) ≡ setDropped (unitFrom r) (wordsIn x)
+  unfolding unitFrom configFrom setAt
+  unit-dropped = refl
 
 -- how long each region is
 sizes : (getD unitSizes wordsRegion 0 ≡ 512) × (getD unitSizes resultsRegion 0 ≡ 512) × (getD unitSizes fixedRegion 0 ≡ 528) × (getD unitSizes countsRegion 0 ≡ 32)
@@ -176,6 +184,12 @@ module _ (u : List ℕ) (long : length u ≡ unitLong) where
       unit-put u resultsRegion (4 * n) (value v) (omega (arith, length-value v)) ∙ unit-values _ _
       ∙ ap (setValues (unitIn u)) (values-put _ n v (omega (arith, region-size resultsRegion (lit< tt))))
 
+  pub dropped-written : (f n : ℕ) → f < 32 → unitIn (putDropped u f n) ≡ setDropped (unitIn u) (set (unitIn u .dropped) f n)
+  unfolding unitSizes unitFrom
+  dropped-written f n h =
+      unit-put u droppedRegion (2 * f) (word n) (omega (arith, length-word n)) ∙ unit-dropped _ _
+      ∙ ap (setDropped (unitIn u)) (words-put _ f n (omega (arith, region-size droppedRegion (lit< tt))))
+
 pub fixed-written : (u : List ℕ) (at : ℕ) (ys : List ℕ) → at + length ys ≤ 528 → unitIn (putFixed u at ys) ≡ setFixed (unitIn u) (put (unitIn u .fixed) at ys)
 unfolding unitSizes unitFrom
 fixed-written u at ys h = unit-put u fixedRegion at ys h ∙ unit-fixed _ _
@@ -235,6 +249,14 @@ module _ (u : List ℕ) (f : ℕ) (h : f < 32) where
   unfolding unitFrom unitSizes
   count-at = region-at unitSizes u countsRegion f h
 
+  pub oldest-at : getD (configIn u .oldest) f 0 ≡ getD u (regionStart oldestRegion + f) 0
+  unfolding unitFrom configFrom unitSizes
+  oldest-at = region-at unitSizes u oldestRegion f h
+
+  pub dropped-at : getD (unitIn u .dropped) f 0 ≡ wordAt u (regionStart droppedRegion + 2 * f)
+  unfolding unitFrom unitSizes
+  dropped-at = words-at (regionIn unitSizes u droppedRegion) f ∙ region-word u droppedRegion (2 * f) (omega arith)
+
 pub kept-at : (u : List ℕ) (i : ℕ) → i < 26 → getD (unitIn u .numbers) i 0 ≡ wordAt u (regionStart numbersRegion + 2 * i)
 unfolding unitFrom unitSizes
 kept-at u i h = words-at (regionIn unitSizes u numbersRegion) i ∙ region-word u numbersRegion (2 * i) (omega arith)
@@ -254,6 +276,16 @@ module _ (u : List ℕ) (f : ℕ) (h : 32 ≤ f) where
   pub count-past : getD (unitIn u .counts) f 0 ≡ 0
   unfolding unitFrom unitSizes
   count-past = region-past unitSizes u countsRegion f h
+
+  pub oldest-past : getD (configIn u .oldest) f 0 ≡ 0
+  unfolding unitFrom configFrom unitSizes
+  oldest-past = region-past unitSizes u oldestRegion f h
+
+  pub dropped-past : getD (unitIn u .dropped) f 0 ≡ 0
+  unfolding unitFrom unitSizes wordAt
+  dropped-past =
+      let p : (i : ℕ) → 64 ≤ i → getD (regionIn unitSizes u droppedRegion) i 0 ≡ 0 = region-past unitSizes u droppedRegion in
+      words-at (regionIn unitSizes u droppedRegion) f ∙ rw (p (2 * f) (omega arith), p (2 * f + 1) (omega arith))
 
 pub value-at : (u : List ℕ) (n : ℕ) → n < 128
     → getD (unitIn u .values) n 0 ≡ wordAt u (regionStart resultsRegion + 4 * n) + 65536 * wordAt u (regionStart resultsRegion + 4 * n + 2)

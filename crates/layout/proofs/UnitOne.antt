@@ -109,12 +109,14 @@ module _ (u v : List ℕ) (l : length u ≡ unitLong) (m : length v ≡ unitLong
   region-one (suc (suc (suc (suc (suc zero))))) = ap (λ (x : Unit). x .config .calculations) e
   region-one (suc (suc (suc (suc (suc (suc zero)))))) = ap (λ (x : Unit). x .config .files) e
   region-one (suc (suc (suc (suc (suc (suc (suc zero))))))) = ap (λ (x : Unit). x .config .values) e
-  region-one (suc (suc (suc (suc (suc (suc (suc (suc zero)))))))) = words-one _ _ (long-u 8 (lit< tt) ∙ sym (long-v 8 (lit< tt))) (chars-u 8) (chars-v 8) (ap (λ (x : Unit). x .numbers) e)
-  region-one (suc (suc (suc (suc (suc (suc (suc (suc (suc zero))))))))) = words-one _ _ (long-u 9 (lit< tt) ∙ sym (long-v 9 (lit< tt))) (chars-u 9) (chars-v 9) (ap (λ (x : Unit). x .words) e)
-  region-one (suc (suc (suc (suc (suc (suc (suc (suc (suc (suc zero)))))))))) = values-one 128 _ _ (long-u 10 (lit< tt)) (long-v 10 (lit< tt)) (chars-u 10) (chars-v 10) (ap (λ (x : Unit). x .values) e)
-  region-one (suc (suc (suc (suc (suc (suc (suc (suc (suc (suc (suc zero))))))))))) = ap (λ (x : Unit). x .fixed) e
-  region-one (suc (suc (suc (suc (suc (suc (suc (suc (suc (suc (suc (suc zero)))))))))))) = ap (λ (x : Unit). x .counts) e
-  region-one (suc (suc (suc (suc (suc (suc (suc (suc (suc (suc (suc (suc (suc j))))))))))))) = refl
+  region-one (suc (suc (suc (suc (suc (suc (suc (suc zero)))))))) = ap (λ (x : Unit). x .config .oldest) e
+  region-one (suc (suc (suc (suc (suc (suc (suc (suc (suc zero))))))))) = words-one _ _ (long-u 9 (lit< tt) ∙ sym (long-v 9 (lit< tt))) (chars-u 9) (chars-v 9) (ap (λ (x : Unit). x .numbers) e)
+  region-one (suc (suc (suc (suc (suc (suc (suc (suc (suc (suc zero)))))))))) = words-one _ _ (long-u 10 (lit< tt) ∙ sym (long-v 10 (lit< tt))) (chars-u 10) (chars-v 10) (ap (λ (x : Unit). x .words) e)
+  region-one (suc (suc (suc (suc (suc (suc (suc (suc (suc (suc (suc zero))))))))))) = values-one 128 _ _ (long-u 11 (lit< tt)) (long-v 11 (lit< tt)) (chars-u 11) (chars-v 11) (ap (λ (x : Unit). x .values) e)
+  region-one (suc (suc (suc (suc (suc (suc (suc (suc (suc (suc (suc (suc zero)))))))))))) = ap (λ (x : Unit). x .fixed) e
+  region-one (suc (suc (suc (suc (suc (suc (suc (suc (suc (suc (suc (suc (suc zero))))))))))))) = ap (λ (x : Unit). x .counts) e
+  region-one (suc (suc (suc (suc (suc (suc (suc (suc (suc (suc (suc (suc (suc (suc zero)))))))))))))) = words-one _ _ (long-u 14 (lit< tt) ∙ sym (long-v 14 (lit< tt))) (chars-u 14) (chars-v 14) (ap (λ (x : Unit). x .dropped) e)
+  region-one (suc (suc (suc (suc (suc (suc (suc (suc (suc (suc (suc (suc (suc (suc (suc j))))))))))))))) = refl
 
   pub unit-one : u ≡ v
   unit-one = regions-one unitSizes u v l m region-one

@@ -48,7 +48,7 @@ keptBy lent counts core memory port =
       inner = record {
         core = core;
         areas = record { words = []; values = []; fixed = []; block = replicate lent 0 };
-        history = record { memory = memory; files = filesBy counts };
+        history = record { memory = memory; files = filesBy counts; dropped = [] };
       };
       port = port;
     }

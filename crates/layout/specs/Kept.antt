@@ -6,7 +6,7 @@ use mathlib.Core.Bool.{Bool, _&&_}
 use lib.ListN.{length}
 use lib.Dec.{eqb, leb}
 use Rattle.model.specs.Config.{Config}
-use Rattle.model.specs.State.{Areas, Files, Inner, State}
+use Rattle.model.specs.State.{Areas, Files, History, Inner, State}
 use Rattle.model.specs.declared.Core.{Core}
 use Rattle.model.specs.declared.Memory.{Memory}
 use Rattle.model.specs.declared.Port.{Port}
@@ -24,22 +24,34 @@ pub record Kept : Type 0 where
   pub block : List ℕ
   pub area : List ℕ
   pub counts : List ℕ
+  pub dropped : List ℕ
 
-abbrev pub keptOf : Core → Memory → Port → List ℕ → List ℕ → List ℕ → List ℕ → List ℕ → List ℕ → Kept
-keptOf core memory port words results fixed block area counts =
-    record { core = core; memory = memory; port = port; words = words; results = results; fixed = fixed; block = block; area = area; counts = counts }
+abbrev pub keptOf : Core → Memory → Port → List ℕ → List ℕ → List ℕ → List ℕ → List ℕ → List ℕ → List ℕ → Kept
+keptOf core memory port words results fixed block area counts dropped =
+    record {
+      core = core;
+      memory = memory;
+      port = port;
+      words = words;
+      results = results;
+      fixed = fixed;
+      block = block;
+      area = area;
+      counts = counts;
+      dropped = dropped;
+    }
 
 abbrev pub areasOf : List ℕ → List ℕ → List ℕ → List ℕ → Areas
 areasOf words results fixed block = record { words = words; values = results; fixed = fixed; block = block }
 
-abbrev pub innerOf : Core → Areas → Memory → Files → Inner
-innerOf core areas memory fs = record { core = core; areas = areas; history = record { memory = memory; files = fs } }
+abbrev pub innerOf : Core → Areas → Memory → Files → List ℕ → Inner
+innerOf core areas memory fs dropped = record { core = core; areas = areas; history = record { memory = memory; files = fs; dropped = dropped } }
 
 -- the records of the files are those that stand in the lent characters, as a layout has them
 abbrev pub stateLaid : Layout → Config → Kept → State
 stateLaid l c k =
     record {
-      inner = innerOf (k .core) (areasOf (k .words) (k .results) (k .fixed) (k .block)) (k .memory) (filesLaid l (c .values) (k .area) (k .counts));
+      inner = innerOf (k .core) (areasOf (k .words) (k .results) (k .fixed) (k .block)) (k .memory) (filesLaid l (c .values) (k .area) (k .counts)) (k .dropped);
       port = k .port;
     }
 
@@ -59,9 +71,13 @@ areasIn u block = areasBy (unitIn u) block
 abbrev pub filesHeld : List ℕ → List ℕ → Files
 filesHeld u area = filesIn (configIn u) area (unitIn u .counts)
 
+-- the remembered reply, the records in the lent characters, and the numbers dropped
+abbrev pub historyIn : List ℕ → List ℕ → History
+historyIn u area = record { memory = memoryIn (numbersIn u); files = filesHeld u area; dropped = unitIn u .dropped }
+
 -- all that is kept but the port: the memory, the parameter block, and the records or the characters of records
 abbrev pub innerBy : List ℕ → List ℕ → Files → Inner
-innerBy u block fs = innerOf (coreIn (numbersIn u)) (areasIn u block) (memoryIn (numbersIn u)) fs
+innerBy u block fs = innerOf (coreIn (numbersIn u)) (areasIn u block) (memoryIn (numbersIn u)) fs (unitIn u .dropped)
 
 abbrev pub innerIn : List ℕ → List ℕ → List ℕ → Inner
 innerIn u block area = innerBy u block (filesHeld u area)
@@ -77,7 +93,7 @@ ownedOf unit block area = record { unit = unit; block = block; area = area }
 
 -- the unit that it means
 abbrev pub keptBy : Core → Memory → Port → Unit → List ℕ → List ℕ → Kept
-keptBy core memory port x block area = keptOf core memory port (x .words) (x .values) (x .fixed) block area (x .counts)
+keptBy core memory port x block area = keptOf core memory port (x .words) (x .values) (x .fixed) block area (x .counts) (x .dropped)
 
 abbrev pub keptIn : Owned → Kept
 keptIn x =

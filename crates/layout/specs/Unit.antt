@@ -14,14 +14,14 @@ use Rattle.layout.specs.Regions.{startIn, regionIn}
 -- ---- the regions, in their order, with their sizes
 
 -- the configuration: unit number and length of the parameter block, the equipped inputs, outputs, calculations and files, the
--- values of a file's records
+-- values of a file's records, the files that keep the oldest
 abbrev pub configSizes : List ℕ
-configSizes = 2 ∷ 2 ∷ 256 ∷ 256 ∷ 256 ∷ 32 ∷ 32 ∷ []
+configSizes = 2 ∷ 2 ∷ 256 ∷ 256 ∷ 256 ∷ 32 ∷ 32 ∷ 32 ∷ []
 
 -- what a unit keeps: the numbers of clock, select, write, status, latest history reply and port, the input words, the calculation
--- values, the fixed blocks, the record counts
+-- values, the fixed blocks, the record counts, the numbers of dropped records
 abbrev pub keptSizes : List ℕ
-keptSizes = 52 ∷ 512 ∷ 512 ∷ 528 ∷ 32 ∷ []
+keptSizes = 52 ∷ 512 ∷ 512 ∷ 528 ∷ 32 ∷ 64 ∷ []
 
 -- first the number of this layout, so that a memory of another is never misread
 unfoldable pub unitSizes : List ℕ
@@ -51,20 +51,26 @@ filesRegion = 6
 abbrev pub valuesRegion : ℕ
 valuesRegion = 7
 
+abbrev pub oldestRegion : ℕ
+oldestRegion = 8
+
 abbrev pub numbersRegion : ℕ
-numbersRegion = 8
+numbersRegion = 9
 
 abbrev pub wordsRegion : ℕ
-wordsRegion = 9
+wordsRegion = 10
 
 abbrev pub resultsRegion : ℕ
-resultsRegion = 10
+resultsRegion = 11
 
 abbrev pub fixedRegion : ℕ
-fixedRegion = 11
+fixedRegion = 12
 
 abbrev pub countsRegion : ℕ
-countsRegion = 12
+countsRegion = 13
+
+abbrev pub droppedRegion : ℕ
+droppedRegion = 14
 
 -- where a region of a unit starts
 abbrev pub regionStart : ℕ → ℕ
@@ -80,7 +86,7 @@ configLong = startIn configSizes (length configSizes)
 
 -- the number of this layout
 abbrev pub layoutNumber : ℕ
-layoutNumber = 2
+layoutNumber = 3
 
 unfoldable pub placesOf : Places
 placesOf =
@@ -93,11 +99,13 @@ placesOf =
       calculations = regionStart calculationsRegion;
       files = regionStart filesRegion;
       values = regionStart valuesRegion;
+      oldest = regionStart oldestRegion;
       numbers = regionStart numbersRegion;
       words = regionStart wordsRegion;
       results = regionStart resultsRegion;
       fixed = regionStart fixedRegion;
       counts = regionStart countsRegion;
+      dropped = regionStart droppedRegion;
       config = configLong;
       unit = unitLong;
       current = layoutNumber;
@@ -129,6 +137,7 @@ pub record Unit : Type 0 where
   pub values : List ℕ
   pub fixed : List ℕ
   pub counts : List ℕ
+  pub dropped : List ℕ
 
 unfoldable pub configFrom : (ℕ → List ℕ) → Config
 configFrom r =
@@ -139,6 +148,7 @@ configFrom r =
       calculations = r calculationsRegion;
       files = r filesRegion;
       values = r valuesRegion;
+      oldest = r oldestRegion;
       block = wordAt (r lengthRegion) 0;
     }
 
@@ -152,6 +162,7 @@ unitFrom r =
       values = resultsIn (r resultsRegion);
       fixed = r fixedRegion;
       counts = r countsRegion;
+      dropped = wordsIn (r droppedRegion);
     }
 
 abbrev pub unitIn : List ℕ → Unit
@@ -163,19 +174,23 @@ configIn u = unitIn u .config
 -- ---- a part anew
 
 abbrev pub setNumbers : Unit → List ℕ → Unit
-setNumbers x ks = record { layout = x .layout; config = x .config; numbers = ks; words = x .words; values = x .values; fixed = x .fixed; counts = x .counts }
+setNumbers x ks = record { layout = x .layout; config = x .config; numbers = ks; words = x .words; values = x .values; fixed = x .fixed; counts = x .counts; dropped = x .dropped }
 
 abbrev pub setWords : Unit → List ℕ → Unit
-setWords x ws = record { layout = x .layout; config = x .config; numbers = x .numbers; words = ws; values = x .values; fixed = x .fixed; counts = x .counts }
+setWords x ws = record { layout = x .layout; config = x .config; numbers = x .numbers; words = ws; values = x .values; fixed = x .fixed; counts = x .counts; dropped = x .dropped }
 
 abbrev pub setValues : Unit → List ℕ → Unit
-setValues x vs = record { layout = x .layout; config = x .config; numbers = x .numbers; words = x .words; values = vs; fixed = x .fixed; counts = x .counts }
+setValues x vs = record { layout = x .layout; config = x .config; numbers = x .numbers; words = x .words; values = vs; fixed = x .fixed; counts = x .counts; dropped = x .dropped }
 
 abbrev pub setFixed : Unit → List ℕ → Unit
-setFixed x fs = record { layout = x .layout; config = x .config; numbers = x .numbers; words = x .words; values = x .values; fixed = fs; counts = x .counts }
+setFixed x fs = record { layout = x .layout; config = x .config; numbers = x .numbers; words = x .words; values = x .values; fixed = fs; counts = x .counts; dropped = x .dropped }
 
 abbrev pub setCounts : Unit → List ℕ → Unit
-setCounts x ns = record { layout = x .layout; config = x .config; numbers = x .numbers; words = x .words; values = x .values; fixed = x .fixed; counts = ns }
+setCounts x ns = record { layout = x .layout; config = x .config; numbers = x .numbers; words = x .words; values = x .values; fixed = x .fixed; counts = ns; dropped = x .dropped }
+
+abbrev pub setDropped : Unit → List ℕ → Unit
+setDropped x ns =
+    record { layout = x .layout; config = x .config; numbers = x .numbers; words = x .words; values = x .values; fixed = x .fixed; counts = x .counts; dropped = ns }
 
 -- ---- characters written into a region, every other left; nothing, where they would not lie in it
 
@@ -201,6 +216,9 @@ putCount u f n = putIn u countsRegion f (n ∷ [])
 -- all counts anew
 abbrev pub putCounts : List ℕ → List ℕ → List ℕ
 putCounts u ns = putIn u countsRegion 0 ns
+
+abbrev pub putDropped : List ℕ → ℕ → ℕ → List ℕ
+putDropped u f n = putIn u droppedRegion (2 * f) (word n)
 
 -- the kept numbers
 abbrev pub numbersIn : List ℕ → List ℕ
@@ -244,4 +262,5 @@ blankOf c =
       values = replicate 128 0;
       fixed = replicate 528 0;
       counts = replicate 32 0;
+      dropped = replicate 32 0;
     }

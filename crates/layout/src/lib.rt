@@ -27,8 +27,11 @@ pub use equipment::has_output;
 pub use equipment::length_of;
 pub use equipment::number_of;
 pub use files::count_of;
+pub use files::dropped_of;
 pub use files::has_file;
+pub use files::keeps_oldest;
 pub use files::put_count;
+pub use files::put_dropped;
 pub use files::values_of;
 pub use judged::fits;
 pub use memory::dump_most;
@@ -63,7 +66,7 @@ ghost use Rattle.layout.specs.Unit.{placesOf};
 // The number of this layout.
 const LAYOUT: usize = 0;
 
-pub const CURRENT: u16 = 2;
+pub const CURRENT: u16 = 3;
 
 // The configuration.
 const NUMBER: usize = LAYOUT + 2;
@@ -80,9 +83,11 @@ const FILES: usize = CALCULATIONS + 256;
 
 const VALUES: usize = FILES + 32;
 
-pub const CONFIG: usize = VALUES + 32 - NUMBER;
+const OLDEST: usize = VALUES + 32;
 
-// What the unit keeps: 26 numbers, then points, blocks and counts.
+pub const CONFIG: usize = OLDEST + 32 - NUMBER;
+
+// What the unit keeps: 26 numbers, then points, blocks, counts and numbers dropped.
 const NUMBERS: usize = NUMBER + CONFIG;
 
 const WORDS: usize = NUMBERS + 52;
@@ -93,7 +98,9 @@ const FIXED: usize = RESULTS + 512;
 
 const COUNTS: usize = FIXED + 528;
 
-pub const UNIT: usize = COUNTS + 32;
+const DROPPED: usize = COUNTS + 32;
+
+pub const UNIT: usize = DROPPED + 64;
 
 // Where the regions start, how long a configuration and how long a unit is.
 pub struct Places {
@@ -105,11 +112,13 @@ pub struct Places {
     pub calculations: usize,
     pub files: usize,
     pub values: usize,
+    pub oldest: usize,
     pub numbers: usize,
     pub words: usize,
     pub results: usize,
     pub fixed: usize,
     pub counts: usize,
+    pub dropped: usize,
     pub config: usize,
     pub unit: usize,
     pub current: u16,
@@ -128,11 +137,13 @@ pub fn told() -> Places
         calculations: CALCULATIONS,
         files: FILES,
         values: VALUES,
+        oldest: OLDEST,
         numbers: NUMBERS,
         words: WORDS,
         results: RESULTS,
         fixed: FIXED,
         counts: COUNTS,
+        dropped: DROPPED,
         config: CONFIG,
         unit: UNIT,
         current: CURRENT,

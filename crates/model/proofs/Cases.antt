@@ -12,9 +12,22 @@ use Rattle.chars.specs.Gather.{gather, upFrom, every}
 use Rattle.checkword.specs.Check.{bitStep, bitSteps, charStep, checkFrom, checkOf}
 use Rattle.model.specs.Frame.{unitOf, masterOf, whole, checked, frameIn, commands, paired, heardOf, requestIn, withCheck, frameChars, headChars, replyChars}
 use Rattle.model.specs.Outcome.{damaged, replyFunction, answerNumber}
-use Rattle.model.specs.Config.{Config, has, within, accumulator, noneIn, fileValid, validOf, hasFile, hasCalculation, sizeOf}
-use Rattle.model.specs.State.{History, heldIn, storeIn, cutIn, freshCore, freshAreas, freshHistory, freshPort, freshOf}
-use Rattle.model.specs.Change.{applied, addedBy, changedBy}
+use Rattle.model.specs.Config.{Config, has, within, accumulator, noneIn, fileValid, validOf, hasFile, keepsOldest, hasCalculation, sizeOf}
+use Rattle.model.specs.State.{
+  Areas,
+  History,
+  Inner,
+  State,
+  heldIn,
+  storeIn,
+  cutIn,
+  freshCore,
+  freshAreas,
+  freshHistory,
+  freshPort,
+  freshOf,
+}
+use Rattle.model.specs.Change.{applied, droppedAfter, addedBy, changedBy}
 use Rattle.model.specs.Scan.{counts, withNoData}
 use Rattle.model.specs.Inputs.{unreserved, chosen, wordOf, inputsOf, hasAccumulator, pulsesOf}
 use Rattle.model.specs.Control.{isOf, takes, selectWhen, operateWhen, selectOf, controlOf, operates, breaks, heldAfter}
@@ -32,6 +45,8 @@ use Rattle.model.specs.History.{
   tellOf,
   historyOf,
   recordChars,
+  sparedIn,
+  fullAs,
   storedWhen,
   storedAs,
 }
@@ -92,7 +107,7 @@ use Rattle.model.specs.declared.Action.the-variants.{Rest, Operate}
 
 -- ---- the units and events of the cases
 
--- the bench unit, with output 1 and file 0 of so many values
+-- the bench unit, with output 1 and file 0 of so many values, which keeps the oldest (Request 7.3)
 unfoldable pub wider : ℕ → Config
 wider v =
     record {
@@ -102,6 +117,7 @@ wider v =
       calculations = replicate 256 0;
       files = set (replicate 32 0) 0 1;
       values = set (replicate 32 0) 0 v;
+      oldest = set (replicate 32 0) 0 1;
       block = 0;
     }
 
@@ -304,12 +320,12 @@ unfolding
     put part word value wordAt gather upFrom bitStep bitSteps charStep checkFrom
     unitOf masterOf whole checked frameIn commands paired heardOf requestIn withCheck frameChars headChars replyChars
     damaged replyFunction has within accumulator every noneIn fileValid validOf hasFile hasCalculation sizeOf
-    heldIn storeIn cutIn applied addedBy changedBy freshCore freshAreas freshHistory freshPort freshOf counts withNoData
+    heldIn storeIn cutIn applied droppedAfter addedBy changedBy freshCore freshAreas freshHistory freshPort freshOf counts withNoData
     unreserved chosen wordOf inputsOf hasAccumulator pulsesOf
     isOf takes selectWhen operateWhen selectOf controlOf operates breaks heldAfter
     known ordinalStart blockOf reaches waitsFor writeWhen writeOf notExecuted executes executeWhen executeOf dropped waitsAfter
     bcd fromBcd digits clockFits timeIn digitsFit timeFits setTimeOf timeOf clockAt clockAfter
-    acknowledges dumps fileOf flat historyChars freedFor mostOf toldFrom tellOf historyOf recordChars storedWhen storedAs
+    acknowledges dumps fileOf flat historyChars freedFor mostOf toldFrom tellOf historyOf recordChars keepsOldest sparedIn fullAs storedWhen storedAs
     masterFits holdFits writeFits coreFits givable replyFits memoryFits fileFits historyFits areasFit portFits fits
     controlled timed written executed scanned internalOf otherOf statusOf sentAs answered quiet settled finished alone telling internalStep stepOf
     served framed broadcastOf broadcastMade followed judged brokenOff coreAfter elapsedMade localMade wordMade notedIn storeMade localOf makeOf

@@ -109,8 +109,8 @@ alike-none = record { long = refl; same = λ i l ne. refl; left = inl refl; righ
 
 -- ---- two units that differ in the port alone
 
-record Twins (s t : State) : Type 0 where
-  inner : s .inner ≡ t .inner
+pub record Twins (s t : State) : Type 0 where
+  pub inner : s .inner ≡ t .inner
   left : portFits (s .port) ≡ true
   right : portFits (t .port) ≡ true
 
@@ -120,7 +120,7 @@ module _ (c : Config) (s t : State) (w : Twins s t) where
   unfolding fits
   both-fit = rw (w .left, w .right, w .inner)
 
-  twins-next : (e : Event) → Twins (nextOf c s e) (nextOf c t e)
+  pub twins-next : (e : Event) → Twins (nextOf c s e) (nextOf c t e)
   unfolding nextOf decided moves
   twins-next e = rw both-fit (go (short e) (fits c t))
     where
@@ -134,7 +134,7 @@ module _ (c : Config) (s t : State) (w : Twins s t) where
           }
       go false false = w
 
-  alike-entry : (e : Event) → AlikeEntry (entryOf c s e) (entryOf c t e)
+  pub alike-entry : (e : Event) → AlikeEntry (entryOf c s e) (entryOf c t e)
   unfolding entryOf resultOf decided shows turnedAway
   alike-entry e = rw both-fit (go (short e) (fits c t))
     where
@@ -177,7 +177,7 @@ fresh-port : (c : Config) → portFits (freshOf c .port) ≡ true
 unfolding freshOf freshPort portFits
 fresh-port c = refl
 
-run-port : (c : Config) (es : List Event) → portFits (after c es .port) ≡ true
+pub run-port : (c : Config) (es : List Event) → portFits (after c es .port) ≡ true
 unfolding moves
 run-port c es =
     by-run (λ xs s. portFits (s .port) ≡ true) c
@@ -185,7 +185,7 @@ run-port c es =
     (freshOf c) es (fresh-port c)
 
 module _ (c : Config) (s : State) (t : Stretch) (d : Damaged (t .chars)) where
-  damaged-twins : portFits (s .port) ≡ true → Twins (nextOf c s (stretch t)) s
+  pub damaged-twins : portFits (s .port) ≡ true → Twins (nextOf c s (stretch t)) s
   unfolding moves
   damaged-twins h =
       by-next (λ x. Twins x s) c s (stretch t) (record { inner = refl; left = h; right = h })

@@ -21,9 +21,12 @@ pub mod Refusals
 pub mod Damage
 pub mod Shown
 pub mod Releases
+pub mod Stores
 pub mod Records
+pub mod Ledgers
 pub mod Demand3
 pub mod Worked
+pub mod Dropped
 pub mod LowFirst
 pub mod Times
 pub mod SetTime

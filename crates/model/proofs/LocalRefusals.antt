@@ -7,7 +7,7 @@ use native.Mathlib.Omega.{arith}
 use Rattle.model.specs.Outcome.{carriedOut, answerNumber}
 use Rattle.model.specs.Config.{Config, has, accumulator, hasCalculation}
 use Rattle.model.specs.State.{Inner}
-use Rattle.model.specs.Change.{applied, addedBy, changedBy}
+use Rattle.model.specs.Change.{applied, droppedAfter, addedBy, changedBy}
 use Rattle.model.specs.Inputs.{hasAccumulator, setWordOf, pulsesOf}
 use Rattle.model.specs.Calculations.{setValueOf}
 use Rattle.model.specs.History.{recordChars, storedAs}
@@ -16,7 +16,7 @@ use Rattle.model.specs.Step.{silent, Made, quiet, elapsedMade, localMade
 use Rattle.model.specs.Port.{portAfter}
 use Rattle.model.specs.Refusal.{arrives, succeeded, wasFull, refusedLocal, RefusedLocally}
 use Rattle.model.specs.declared.Stored.{Stored}
-use Rattle.model.specs.declared.Stored.the-variants.{Kept, Full, NotEquipped, WrongValues}
+use Rattle.model.specs.declared.Stored.the-variants.{Kept, Swapped, Full, NotEquipped, WrongValues}
 use Rattle.model.specs.declared.Action.the-variants.{Rest}
 use Rattle.model.specs.declared.Input.{Input}
 use Rattle.model.specs.declared.SpecialCalculation.{SpecialCalculation}
@@ -50,8 +50,9 @@ module _ (c : Config) (i : Inner) where
   pulses-meets n k = by-cond (Meets i (local (pulses n k)) (wordMade i)) (hasAccumulator (c .inputs) (n .0)) (λ e. succeeds refl) (λ e. fails refl refl refl (λ p. refl) (omega arith))
 
   store-meets : (f : File) (x : ℕ) (vs r : List ℕ) (d : Stored) → Meets i (local (store f x vs)) (storeMade i (f .0) r) d
-  unfolding storeMade notedIn addedBy changedBy applied succeeded refusedLocal wasFull portAfter
+  unfolding storeMade notedIn addedBy changedBy applied droppedAfter succeeded refusedLocal wasFull portAfter
   store-meets f x vs r Kept = succeeds refl
+  store-meets f x vs r Swapped = succeeds refl
   store-meets f x vs r Full = fails refl refl refl (λ p. refl) (omega arith)
   store-meets f x vs r NotEquipped = fails refl refl refl (λ p. refl) (omega arith)
   store-meets f x vs r WrongValues = fails refl refl refl (λ p. refl) (omega arith)
@@ -62,7 +63,7 @@ module _ (c : Config) (i : Inner) where
   each-meets (setValue n v) = record { refuses = set-value-meets n v .refuses }
   each-meets (pulses n k) = record { refuses = pulses-meets n k .refuses }
   each-meets (store f x vs) =
-      record { refuses = store-meets f x vs (recordChars (record { event = x; clock = i .core .clock }) vs) (storedAs (c .files) (c .values) (i .history .files) (f .0) vs) .refuses }
+      record { refuses = store-meets f x vs (recordChars (record { event = x; clock = i .core .clock }) vs) (storedAs c (i .history) (f .0) vs) .refuses }
 
   -- every event but a stretch
   pub local-meets : (e : Event) → arrives e ≡ false → Meets i e (makeOf c i) e

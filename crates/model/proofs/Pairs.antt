@@ -14,7 +14,7 @@ use Rattle.model.specs.Sound.{WholePair}
 use Rattle.model.specs.Outcome.{numberOf, sendingOf, answerNumber}
 use Rattle.model.specs.Config.{Config, within}
 use Rattle.model.specs.State.{Inner}
-use Rattle.model.specs.Change.{stays, applied, changedBy}
+use Rattle.model.specs.Change.{stays, applied, droppedAfter, changedBy}
 use Rattle.model.specs.Scan.{counts}
 use Rattle.model.specs.Control.{isOf, breaks}
 use Rattle.model.specs.Blocks.{WriteResult, waitsFor, writeWhen, writeOf, Executed, notExecuted, executes, executeWhen, executeOf, reaches, dropped}
@@ -76,7 +76,7 @@ module _ (c : Config) (i : Inner) (lag : ℕ) (w : Request) (f : w .function ≡
 
   module _ (own : unitOf (w .address) ≡ c .unit) where
     waits-takes : (bias o : ℕ) → dropped (i .core .write) by ≡ NoWrite → Takes (finished i w (wrote (waitsFor by bias o)))
-    unfolding Takes waitsFor written alone finished settled answered sentAs changedBy applied isOf
+    unfolding Takes waitsFor written alone finished settled answered sentAs changedBy applied droppedAfter isOf
     waits-takes bias o d n = (
       own,
       record { answer = refl; action = refl; sent = refl; change = refl; write = record { master = by; bias = bias; ordinal = record { 0 = o }; age = 0 }; owner = eq-eqb (by .0) (by .0) refl; earlier = d; inner = refl },

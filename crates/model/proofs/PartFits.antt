@@ -13,7 +13,7 @@ use Rattle.model.specs.Limits.{holdTime, mostLag, fileRoom}
 use Rattle.model.specs.Frame.{Request, masterOf}
 use Rattle.model.specs.Config.{Config, has, within, hasFile}
 use Rattle.model.specs.State.{Files, History, heldIn, storeIn}
-use Rattle.model.specs.Change.{stays, adds, applied, changedBy}
+use Rattle.model.specs.Change.{stays, adds, swaps, applied, droppedAfter, changedBy}
 use Rattle.model.specs.Scan.{counts}
 use Rattle.model.specs.Control.{
   Controlled,
@@ -42,7 +42,7 @@ use Rattle.model.specs.declared.HistoryReply.{HistoryReply}
 use Rattle.model.specs.declared.Memory.{Memory}
 use Rattle.model.specs.declared.Memory.the-variants.{Nothing, Remembered}
 use Rattle.model.proofs.Conditions.{by-cond, and-left, and-right, and-both, every-upFrom, upFrom-every}
-use Rattle.model.proofs.FileLaws.{held-stored, store-grows, cut-shrinks, toldAfter, newTold}
+use Rattle.model.proofs.FileLaws.{held-stored, store-grows, cut-shrinks, toldAfter, newTold, length-swap}
 
 -- ---- masters and the clock
 
@@ -192,9 +192,9 @@ module _ (c : Config) where
   unfolding historyFits
   history-memory h e = and-right (every (fileFits c (h .files)) (upFrom 0 32)) _ e
 
-  pub history-fits : (m : Memory) (fs : Files) → FilesFit c fs → memoryFits c fs m ≡ true → historyFits c (record { memory = m; files = fs }) ≡ true
+  pub history-fits : (m : Memory) (fs : Files) (ns : List ℕ) → FilesFit c fs → memoryFits c fs m ≡ true → historyFits c (record { memory = m; files = fs; dropped = ns }) ≡ true
   unfolding historyFits FilesFit
-  history-fits m fs e g = and-both (upFrom-every (fileFits c fs) 0 32 (λ f low high. let k : f < 32 = omega arith in e f k)) g
+  history-fits m fs ns e g = and-both (upFrom-every (fileFits c fs) 0 32 (λ f low high. let k : f < 32 = omega arith in e f k)) g
 
   -- files that hold no more than fitting ones fit
   fewer-fit : (fs gs : Files) → ((f : ℕ) → length (heldIn gs f) ≤ length (heldIn fs f)) → FilesFit c fs → FilesFit c gs
@@ -244,11 +244,11 @@ module _ (c : Config) where
   told-fits h q g k e =
       let ch = freedFor (h .memory) (masterOf (q .address)) in
       let fs = applied ch (h .files) in
-      history-fits (toldFrom (c .values) ch fs q .memory) fs (freed-fit (h .memory) (h .files) _ (history-files h e)) (reply-fits fs _ g k (omega arith) refl)
+      history-fits (toldFrom (c .values) ch fs q .memory) fs _ (freed-fit (h .memory) (h .files) _ (history-files h e)) (reply-fits fs _ g k (omega arith) refl)
 
   pub forgotten-fits : (h : History) → historyFits c h ≡ true → historyFits c (changedBy stays Nothing h) ≡ true
-  unfolding changedBy applied memoryFits
-  forgotten-fits h e = history-fits Nothing (h .files) (history-files h e) refl
+  unfolding changedBy applied droppedAfter memoryFits
+  forgotten-fits h e = history-fits Nothing (h .files) _ (history-files h e) refl
 
   -- ---- a record that is kept
 
@@ -264,7 +264,16 @@ module _ (c : Config) where
 
   pub kept-fits : (h : History) (f : ℕ) (r : List ℕ) → hasFile (c .files) f ≡ true → length (heldIn (h .files) f) < fileRoom → historyFits c h ≡ true
       → historyFits c (changedBy (adds f r) (h .memory) h) ≡ true
-  unfolding changedBy applied
+  unfolding changedBy applied droppedAfter
   kept-fits h f r k room e =
-      history-fits (h .memory) (storeIn (h .files) f r) (stored-fit (h .files) f r k room (history-files h e))
+      history-fits (h .memory) (storeIn (h .files) f r) _ (stored-fit (h .files) f r k room (history-files h e))
       (grown-fits (h .memory) (h .files) _ (λ g. store-grows (h .files) f g r) (history-memory h e))
+
+  -- a file that drops a record for it holds as many as before
+  pub swapped-fits : (h : History) (f at : ℕ) (r : List ℕ) → at < length (heldIn (h .files) f) → historyFits c h ≡ true
+      → historyFits c (changedBy (swaps f at r) (h .memory) h) ≡ true
+  unfolding changedBy
+  swapped-fits h f at r k e =
+      let n : (g : ℕ) → length (heldIn (applied (swaps f at r) (h .files)) g) ≡ length (heldIn (h .files) g) = λ g. length-swap (h .files) f g at r k in
+      history-fits (h .memory) (applied (swaps f at r) (h .files)) _ (fewer-fit (h .files) _ (λ g. omega (arith, n g)) (history-files h e))
+      (grown-fits (h .memory) (h .files) _ (λ g. omega (arith, n g)) (history-memory h e))

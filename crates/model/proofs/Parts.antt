@@ -10,13 +10,13 @@ use Rattle.model.specs.Frame.{Request, unitOf, masterOf, broadcastUnit, 
 use Rattle.model.specs.Outcome.{numberOf}
 use Rattle.model.specs.Config.{Config, hasFile}
 use Rattle.model.specs.State.{Areas, History, Inner}
-use Rattle.model.specs.Change.{stays, adds, applied, addedBy, changedBy}
+use Rattle.model.specs.Change.{stays, adds, swaps, applied, droppedAfter, addedBy, changedBy}
 use Rattle.model.specs.Scan.{Scan, tells, counts}
 use Rattle.model.specs.Inputs.{Changed, resetCountOf}
 use Rattle.model.specs.Control.{controlOf, breaks, heldAfter, isOf}
 use Rattle.model.specs.Blocks.{executeOf, writeOf, dropped, waitsAfter}
 use Rattle.model.specs.Clock.{setTimeOf, clockAfter}
-use Rattle.model.specs.History.{Told, acknowledges, fileOf, untold, agrees, againWhen, tellOf, historyOf, recordChars, storedAs}
+use Rattle.model.specs.History.{Told, acknowledges, fileOf, untold, agrees, againWhen, tellOf, historyOf, recordChars, sparedIn, storedAs}
 use Rattle.model.specs.Event.{Stretch, Local, setWord, setValue, pulses, store, Event, stretch, elapsed, local}
 use Rattle.model.specs.Step.{
   Step,
@@ -60,7 +60,7 @@ use Rattle.model.specs.Step.{
 use Rattle.model.specs.declared.Outcome.{Outcome}
 use Rattle.model.specs.declared.Outcome.the-variants.{OtherUnit, NotWhole, CheckWrong}
 use Rattle.model.specs.declared.Stored.{Stored}
-use Rattle.model.specs.declared.Stored.the-variants.{Kept, Full, NotEquipped, WrongValues}
+use Rattle.model.specs.declared.Stored.the-variants.{Kept, Swapped, Full, NotEquipped, WrongValues}
 use Rattle.model.specs.declared.Answer.{Answer}
 use Rattle.model.specs.declared.Answer.the-variants.{Ended}
 use Rattle.model.specs.declared.Master.{Master}
@@ -124,8 +124,10 @@ pub record Lasts (c : Config) (p : Parts) : Type 0 where
   pub told : (h : History) (q : Request) → p .request q → hasFile (c .files) (fileOf q) ≡ true → p .history h
       → p .history (toldAfter h (newTold c h q))
   pub forgotten : (h : History) → p .history h → p .history (changedBy stays Nothing h)
-  pub kept : (h : History) (f : ℕ) (r : Record) (vs : List ℕ) → storedAs (c .files) (c .values) (h .files) f vs ≡ Kept → p .history h
+  pub kept : (h : History) (f : ℕ) (r : Record) (vs : List ℕ) → storedAs c h f vs ≡ Kept → p .history h
       → p .history (changedBy (adds f (recordChars r vs)) (h .memory) h)
+  pub swapped : (h : History) (f : ℕ) (r : Record) (vs : List ℕ) → storedAs c h f vs ≡ Swapped → p .history h
+      → p .history (changedBy (swaps f (sparedIn (h .memory) f) (recordChars r vs)) (h .memory) h)
 
 Makes : Parts → Made → Type 0
 Makes p m = InnerHas p (m .inner)
@@ -222,7 +224,7 @@ module _ (c : Config) (p : Parts) (l : Lasts c p) where
 
   module _ (i : Inner) (h : InnerHas p i) where
     alone-has : (s : Step) → StepHas p s → SteppedHas p i (alone i s)
-    unfolding alone changedBy applied
+    unfolding alone changedBy applied droppedAfter
     alone-has s r = record { step = r; history = h .history }
 
     brokenOff-has : StepHas p (brokenOff (i .core) (i .areas))
@@ -230,14 +232,14 @@ module _ (c : Config) (p : Parts) (l : Lasts c p) where
     brokenOff-has = record { core = record { clock = h .core .clock; hold = l .free; write = h .core .write }; areas = h .areas }
 
     -- sending again, and a refusal, change nothing
-    again-has : (w : Memory) (q : Request) → p .history (record { memory = w; files = i .history .files })
+    again-has : (w : Memory) (q : Request) → p .history (record { memory = w; files = i .history .files; dropped = i .history .dropped })
         → p .history (toldAfter (i .history) (againWhen w (i .history .files) q))
-    unfolding againWhen untold changedBy applied
+    unfolding againWhen untold changedBy applied droppedAfter
     again-has Nothing q k = k
     again-has (Remembered t) q k = by-cond {A = Told} (λ x. p .history (toldAfter (i .history) x)) (agrees t q) (λ e. k) (λ e. k)
 
     history-has : (q : Request) → p .request q → p .history (toldAfter (i .history) (historyOf (c .files) (c .values) (i .history) q))
-    unfolding historyOf tellOf untold changedBy applied
+    unfolding historyOf tellOf untold changedBy applied droppedAfter
     history-has q g =
         let P : Told → Type 0 = λ x. p .history (toldAfter (i .history) x) in
         by-cond P (ltb (q .command) 128)
@@ -339,10 +341,12 @@ module _ (c : Config) (p : Parts) (l : Lasts c p) where
     unfolding valueMade
     value-has r e = local-has _ _ (record { words = refl; values = e; fixed = refl; block = refl })
 
-    store-has : (f : ℕ) (r : Record) (vs : List ℕ) (o : Stored) → storedAs (c .files) (c .values) (i .history .files) f vs ≡ o → Makes p (storeMade i f (recordChars r vs) o)
-    unfolding Makes storeMade notedIn addedBy changedBy applied
+    store-has : (f : ℕ) (r : Record) (vs : List ℕ) (o : Stored) → storedAs c (i .history) f vs ≡ o → Makes p (storeMade i f (recordChars r vs) o)
+    unfolding Makes storeMade notedIn addedBy changedBy applied droppedAfter
     store-has f r vs Kept e =
         record { core = record { clock = h .core .clock; hold = h .core .hold; write = h .core .write }; areas = h .areas; history = l .kept (i .history) f r vs e (h .history) }
+    store-has f r vs Swapped e =
+        record { core = record { clock = h .core .clock; hold = h .core .hold; write = h .core .write }; areas = h .areas; history = l .swapped (i .history) f r vs e (h .history) }
     store-has f r vs Full e =
         record { core = record { clock = h .core .clock; hold = h .core .hold; write = h .core .write }; areas = h .areas; history = h .history }
     store-has f r vs NotEquipped e = h

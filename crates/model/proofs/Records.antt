@@ -1,8 +1,9 @@
--- Demand 3, records: over every run from a fresh unit, a file's stored records are the released followed by the held. Assumes nothing.
+-- Demand 3, records: over every run from a fresh unit, what a file stored, with the dropped struck out, is what it released followed by what it holds.
+-- Assumes nothing.
 use Prim.Native.Nat.{ℕ}
 use mathlib.Core.Path.{_≡_, refl, sym, ap, ap₂, _∙_}
 use mathlib.Core.Logic.{_⊎_, inl, inr}
-use mathlib.Core.List.{List, [], _∷_, _++_, append-nil, append-assoc}
+use mathlib.Core.List.{List, [], _∷_}
 use mathlib.Core.Bool.{Bool, true, false, cond, _&&_}
 use lib.Dec.{eqb}
 use native.Mathlib.Omega.{arith}
@@ -15,24 +16,24 @@ use Rattle.model.specs.Event.{Event}
 use Rattle.model.specs.Step.{makeOf}
 use Rattle.model.specs.Run.{short, Result, turnedAway, shows, moves, resultOf, nextOf, Entry, entryOf, afterFrom, traceFrom, after, trace}
 use Rattle.model.specs.Formed.{Formed}
-use Rattle.model.specs.Line.{Shown, told, forgot, other, shownBy, shown, Latest, nobody, gave, latestAfter, releasedBy, latestFrom, releasedFrom, storedBy, storedIn, latestIn, releasedIn}
-use Rattle.model.specs.Demand3.{heldBy, Acknowledged, Accounted, Unshown, none, one, Came, rememberedAs}
+use Rattle.model.specs.Line.{Shown, told, forgot, other, shownBy, shown, Latest, nobody, gave, latestAfter, releasedBy, latestFrom, storedBy, dropsBy, latestIn}
+use Rattle.model.specs.Demand3.{Acknowledged, Unshown, none, one, Came, rememberedAs}
 use Rattle.model.specs.declared.Outcome.{Outcome}
 use Rattle.model.specs.declared.Outcome.the-variants.{NotConfigured, BufferShort}
 use Rattle.model.specs.declared.Master.{Master}
 use Rattle.model.proofs.Conditions.{by-bool}
-use Rattle.model.proofs.FileLaws.{held-none}
 use Rattle.model.proofs.Shape.{fresh-formed, step-formed, run-formed}
 use Rattle.model.proofs.TurnedAway.{short-away, unfit-away, works}
 use Rattle.model.proofs.Shown.{asked}
-use Rattle.model.proofs.Releases.{Matches, Moved, same-master, away-fine, made-fine}
+use Rattle.model.proofs.Releases.{Matches, Moved, same-master}
+use Rattle.model.proofs.Stores.{away-fine, made-fine}
 
 -- ---- one event of a run
 
 module _ (c : Config) (s : State) (l : Latest) (t : Matches (s .inner .history) l) (f : Formed c s) (e : Event) where
   -- what the event showed and stored, by its result, and what is kept then
   Moves : Result → State → Type 0
-  Moves r n = Moved l (s .inner .history) (shownBy c e (r .reply)) (storedBy e (s .inner .core .clock) (r .answer)) (n .inner .history)
+  Moves r n = Moved l (s .inner .history) (shownBy c e (r .reply)) (dropsBy e (r .answer)) (storedBy e (s .inner .core .clock) (r .answer)) (n .inner .history)
 
   away-moves : (o : Outcome) → Moves (turnedAway o) s
   unfolding Moves turnedAway
@@ -40,7 +41,7 @@ module _ (c : Config) (s : State) (l : Latest) (t : Matches (s .inner .history) 
 
   made-moves : Moves (shows (s .port) (makeOf c (s .inner) e)) (moves (s .port) e (makeOf c (s .inner) e))
   unfolding Moves shows moves
-  made-moves = made-fine c l (s .inner) (s .port .mark) t (f .records) (f .files) e
+  made-moves = made-fine c l (s .inner) (s .port .mark) t (f .records) (f .files) (f .dropped) e
 
   event-moves : Moves (resultOf c s e) (nextOf c s e)
   event-moves =
@@ -49,27 +50,14 @@ module _ (c : Config) (s : State) (l : Latest) (t : Matches (s .inner .history) 
       (λ b. let h = unfit-away c s e a b in rw (h .0, h .1) (away-moves NotConfigured)))
 
   -- an event moves the records as the line shows, and memory and line match again
-  pub moved-on : Moved l (s .inner .history) (shown c (entryOf c s e)) (storedBy e (s .inner .core .clock) (resultOf c s e .answer)) (nextOf c s e .inner .history)
+  pub moved-on : Moved l (s .inner .history) (shown c (entryOf c s e)) (dropsBy e (resultOf c s e .answer)) (storedBy e (s .inner .core .clock) (resultOf c s e .answer))
+      (nextOf c s e .inner .history)
   unfolding Moves shown entryOf
   moved-on = event-moves
 
 -- ---- a run
 
 module _ (c : Config) where
-  records-from : (s : State) (l : Latest) (es : List Event) → Matches (s .inner .history) l → Formed c s → (g : ℕ)
-      → heldBy s g ++ storedIn (traceFrom c s es) g ≡ releasedFrom c l (traceFrom c s es) g ++ heldBy (afterFrom c s es) g
-  unfolding storedIn releasedFrom traceFrom afterFrom entryOf
-  records-from s l [] t f g = append-nil (heldBy s g)
-  records-from s l (e ∷ es) t f g =
-      let m = moved-on c s l t f e in
-      let x = storedIn (traceFrom c (nextOf c s e) es) g in
-      let y = shown c (entryOf c s e) in
-      sym (append-assoc (heldBy s g) _ x)
-      ∙ ap (λ (z : List (List ℕ)). z ++ x) (m .moved g)
-      ∙ append-assoc (releasedBy l y g) _ x
-      ∙ ap (λ (z : List (List ℕ)). releasedBy l y g ++ z) (records-from (nextOf c s e) (latestAfter l y) es (m .matches) (step-formed c s e f) g)
-      ∙ sym (append-assoc (releasedBy l y g) _ _)
-
   matches-from : (s : State) (l : Latest) (es : List Event) → Matches (s .inner .history) l → Formed c s
       → Matches (afterFrom c s es .inner .history) (latestFrom c l (traceFrom c s es))
   unfolding traceFrom afterFrom latestFrom
@@ -77,20 +65,12 @@ module _ (c : Config) where
   matches-from s l (e ∷ es) t f =
       matches-from (nextOf c s e) (latestAfter l (shown c (entryOf c s e))) es (moved-on c s l t f e .matches) (step-formed c s e f)
 
-  fresh-matches : Matches (freshOf c .inner .history) nobody
+  pub fresh-matches : Matches (freshOf c .inner .history) nobody
   unfolding freshOf freshHistory
   fresh-matches = record { latest = refl; holds = tt }
 
-  fresh-none : (g : ℕ) → heldBy (freshOf c) g ≡ []
-  unfolding freshOf freshHistory
-  fresh-none g = held-none 32 g
-
-  run-matches : (es : List Event) → Matches (after c es .inner .history) (latestIn c (trace c es))
+  pub run-matches : (es : List Event) → Matches (after c es .inner .history) (latestIn c (trace c es))
   run-matches es = matches-from (freshOf c) nobody es fresh-matches (fresh-formed c)
-
-  -- THE THEOREM: what a run stored in a file is what it released of it, followed by what is held
-  pub records : (es : List Event) (g : ℕ) → storedIn (trace c es) g ≡ releasedIn c (trace c es) g ++ heldBy (after c es) g
-  records es g = rw (fresh-none g) at (records-from (freshOf c) nobody es fresh-matches (fresh-formed c) g)
 
   -- what the unit remembers is what the line showed last
   pub remembered : (es : List Event) → latestIn c (trace c es) ≡ rememberedAs (after c es .inner .history .memory) (after c es .inner .history .files)
@@ -137,7 +117,7 @@ module _ (c : Config) {m : Master} {f : ℕ} {ys : List ℕ} {rs : List (List �
 
 -- ---- a release
 
-acknowledged : (c : Config) (l : Latest) (x : Entry) (g : ℕ) (y : Shown) → shown c x ≡ y → (releasedBy l y g ≡ [] → ⊥) → Acknowledged c l x g
+pub acknowledged : (c : Config) (l : Latest) (x : Entry) (g : ℕ) (y : Shown) → shown c x ≡ y → (releasedBy l y g ≡ [] → ⊥) → Acknowledged c l x g
 unfolding releasedBy shown
 acknowledged c nobody x g y e n = absurd (n refl)
 acknowledged c (gave m f ys rs) x g forgot e n = absurd (n refl)
@@ -157,14 +137,6 @@ acknowledged c (gave m f ys rs) x g (told p h true zs ps) e n = go (isOf m p) (e
         }
     go true false u v k = absurd (k refl)
     go false d u v k = absurd (k refl)
-
--- at each event of a run: what was held, and what is stored now, is what is released now, and what is held then
-pub accounted : (c : Config) (es : List Event) (e : Event) (g : ℕ) → Accounted c es e g
-accounted c es e g =
-    record {
-      balance = moved-on c (after c es) (latestIn c (trace c es)) (run-matches c es) (run-formed c es) e .moved g;
-      release = acknowledged c (latestIn c (trace c es)) (entryOf c (after c es) e) g _ refl;
-    }
 
 -- a repeat carries the data of the latest history reply, to the same master
 pub repeated : (c : Config) (es : List Event) (e : Event) {m : Master} {f : ℕ} {ys : List ℕ} {rs : List (List ℕ)}

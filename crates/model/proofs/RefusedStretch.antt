@@ -12,7 +12,7 @@ use Rattle.model.specs.Frame.{Request, masterOf, unitOf, broadcastUnit, 
 use Rattle.model.specs.Outcome.{numberOf, sendingOf, carriedOut}
 use Rattle.model.specs.Config.{Config, within, hasFile}
 use Rattle.model.specs.State.{Files, Inner}
-use Rattle.model.specs.Change.{Change, applied, changedBy}
+use Rattle.model.specs.Change.{Change, applied, droppedAfter, changedBy}
 use Rattle.model.specs.Scan.{refuses, counts}
 use Rattle.model.specs.Sound.{WholePair}
 use Rattle.model.specs.Control.{isOf, breaks}
@@ -103,7 +103,7 @@ module _ {A : Type 0} {q : Request} {i : Inner} {w : A → Made} {r : A} where
 
 module _ (i : Inner) (q : Request) where
   alone-meets : (p : Step) → Kept (i .core) (i .areas) itself p → Meets q i (finished i q) (alone i p)
-  unfolding alone finished changedBy applied refusedInner
+  unfolding alone finished changedBy applied droppedAfter refusedInner
   alone-meets p h =
       meets (p .says .outcome) refl
       (λ n.

@@ -1,38 +1,34 @@
--- One event moves the records as the line shows: a request for this unit, any other stretch, and the events that are no stretch. Assumes nothing.
+-- A stretch moves the records as the line shows: a request for this unit, and any other. Assumes nothing.
 use Prim.Native.Nat.{ℕ, _+_, _*_, _/_, _≤_, _<_, min}
 use mathlib.Core.Path.{_≡_, refl, sym, ap, _∙_, subst}
-use mathlib.Core.List.{List, [], _∷_, _++_, append-nil}
+use mathlib.Core.List.{List, [], _++_, append-nil}
 use mathlib.Core.Bool.{Bool, true, false, cond, not, _&&_, Bool·beq}
-use lib.ListN.{length, getD, take, length-append}
-use lib.Seq.{take-append-le}
+use lib.ListN.{length, getD, take}
 use lib.Dec.{eqb, ltb}
 use native.Mathlib.Nat.{div-lt-iff-lt-mul}
 use native.Mathlib.Omega.{arith}
-use borrow.Author.Tests.{eqb-true, eq-eqb, ltb-true}
+use borrow.Author.Tests.{eqb-true, eq-eqb}
+use Rattle.model.specs.Limits.{mostDropped}
 use Rattle.model.specs.Frame.{Request, unitOf, masterOf, broadcastUnit, frameIn, heardOf, requestIn}
 use Rattle.model.specs.Outcome.{sendingOf, functionBits, replyFunction}
 use Rattle.model.specs.Config.{Config, hasFile, sizeOf}
-use Rattle.model.specs.State.{Areas, Files, History, Inner, heldIn, storeIn}
-use Rattle.model.specs.Change.{Change, stays, cuts, adds, applied, addedBy, changedBy}
+use Rattle.model.specs.State.{Areas, Files, History, Inner, heldIn}
+use Rattle.model.specs.Change.{Change, stays, cuts, applied, droppedAfter, changedBy}
 use Rattle.model.specs.Scan.{tells, refuses, counts}
 use Rattle.model.specs.Control.{isOf, breaks}
-use Rattle.model.specs.History.{Told, acknowledges, dumps, fileOf, untold, flat, historyChars, freedFor, mostOf, toldFrom, agrees, againWhen, tellOf, historyOf, recordChars, storedAs}
-use Rattle.model.specs.Event.{Local, setWord, setValue, pulses, store, Event, stretch, elapsed, local}
-use Rattle.model.specs.Step.{Step, scanned, internalOf, Made, quiet, Stepped, finished, alone, brokenOff, telling, restarted, initialStep, internalStep, stepOf, served, otherOf, broadcastOf, broadcastMade, framed, judged, elapsedMade, localMade, wordMade, valueMade, storeMade, localOf, makeOf}
+use Rattle.model.specs.History.{Told, acknowledges, dumps, fileOf, untold, historyChars, freedFor, mostOf, toldFrom, agrees, againWhen, tellOf, historyOf}
+use Rattle.model.specs.Step.{Step, scanned, internalOf, Made, quiet, Stepped, finished, alone, brokenOff, telling, restarted, initialStep, internalStep, stepOf, served, otherOf, broadcastOf, broadcastMade, framed, judged}
 use Rattle.model.specs.Port.{sentChars}
 use Rattle.model.specs.Formed.{AllSized}
-use Rattle.model.specs.Line.{Shown, told, forgot, other, initialises, shownFor, shownIn, shownBy, Latest, nobody, gave, latestAfter, releasedBy, wasKept, storedLocally, storedBy}
-use Rattle.model.specs.Demand3.{rememberedAs}
+use Rattle.model.specs.Line.{Shown, told, forgot, other, initialises, shownFor, shownIn, Latest, nobody, gave, latestAfter, releasedBy, sparedBy}
+use Rattle.model.specs.Demand3.{without, rememberedAs}
 use Rattle.model.specs.declared.Outcome.{Outcome}
 use Rattle.model.specs.declared.Outcome.the-variants.{Unknown, WrongCount, NotValid, NothingAgain, OtherUnit}
-use Rattle.model.specs.declared.Stored.{Stored}
-use Rattle.model.specs.declared.Stored.the-variants.{Kept, Full, NotEquipped, WrongValues}
 use Rattle.model.specs.declared.Answer.{Answer}
 use Rattle.model.specs.declared.Answer.the-variants.{Ended}
 use Rattle.model.specs.declared.Heard.{Heard}
 use Rattle.model.specs.declared.Heard.the-variants.{Broken, Wrong, Whole, Pair}
 use Rattle.model.specs.declared.Master.{Master}
-use Rattle.model.specs.declared.File.{File}
 use Rattle.model.specs.declared.Mark.{Mark}
 use Rattle.model.specs.declared.Core.{Core}
 use Rattle.model.specs.declared.HistoryReply.{HistoryReply}
@@ -41,14 +37,14 @@ use Rattle.model.specs.declared.Memory.the-variants.{Nothing, Remembered
 use Rattle.model.proofs.PairLaws.{by-heard}
 use Rattle.model.proofs.Pairs.{by-pair}
 use Rattle.model.proofs.Conditions.{by-cond, false-true, and-left, and-right, and-both}
-use Rattle.model.proofs.FileLaws.{held-store, held-front, stored-kept}
+use Rattle.model.proofs.FileLaws.{held-front}
 use Rattle.model.proofs.Shape.{sized-rest}
 use Rattle.model.proofs.Shown.{shown-beside, shown-refused, shown-forgot, shown-told}
 
 -- ---- the invariant: the unit's memory is what the line showed last
 
 -- the records of a remembered reply are held, and no more than a reply can tell
-abbrev Holds : Memory → Files → Type 0
+abbrev pub Holds : Memory → Files → Type 0
 Holds Nothing fs = Unit {0}
 Holds (Remembered t) fs = (t .quantity ≤ length (heldIn fs (t .file .0))) × (t .quantity < 128)
 
@@ -56,10 +52,16 @@ pub record Matches (h : History) (l : Latest) : Type 0 where
   pub latest : l ≡ rememberedAs (h .memory) (h .files)
   pub holds : Holds (h .memory) (h .files)
 
--- one event: a repeat shows what was shown last; what was held and what is stored is what is released and what is held then; and memory and line match again
-pub record Moved (l : Latest) (h : History) (x : Shown) (new : ℕ → List (List ℕ)) (k : History) : Type 0 where
+-- a number of dropped records after an event
+abbrev pub counts-on : Bool → ℕ → ℕ
+counts-on d n = cond d (min (n + 1) mostDropped) n
+
+-- one event: a repeat shows what was shown last; what was held without what is dropped, and what is stored, is what is released and what is
+-- held then; what is dropped is counted; and memory and line match again
+pub record Moved (l : Latest) (h : History) (x : Shown) (drops : ℕ → Bool) (new : ℕ → List (List ℕ)) (k : History) : Type 0 where
   pub repeats : {m : Master} {f : ℕ} {ys : List ℕ} {rs : List (List ℕ)} → x ≡ told m f false ys rs → l ≡ gave m f ys rs
-  pub moved : (g : ℕ) → heldIn (h .files) g ++ new g ≡ releasedBy l x g ++ heldIn (k .files) g
+  pub moved : (g : ℕ) → without (drops g) (length (sparedBy l g)) (heldIn (h .files) g) ++ new g ≡ releasedBy l x g ++ heldIn (k .files) g
+  pub counted : (g : ℕ) → getD (k .dropped) g 0 ≡ counts-on (drops g) (getD (h .dropped) g 0)
   pub matches : Matches k (latestAfter l x)
 
 -- what is no repeat
@@ -68,17 +70,20 @@ repeats (told m f a ys rs) = not a
 repeats forgot = false
 repeats other = false
 
-shown-else : {X : Type 0} {x : Shown} {m : Master} {f : ℕ} {ys : List ℕ} {rs : List (List ℕ)} → repeats x ≡ false → x ≡ told m f false ys rs → X
+pub shown-else : {X : Type 0} {x : Shown} {m : Master} {f : ℕ} {ys : List ℕ} {rs : List (List ℕ)} → repeats x ≡ false → x ≡ told m f false ys rs → X
 shown-else e r = false-true (sym e ∙ ap repeats r)
 
-abbrev nothing : ℕ → List (List ℕ)
+abbrev pub nothing : ℕ → List (List ℕ)
 nothing g = []
 
-as-shown : {l : Latest} {h k : History} {x y : Shown} {new : ℕ → List (List ℕ)} → x ≡ y → Moved l h y new k → Moved l h x new k
+abbrev pub never : ℕ → Bool
+never g = false
+
+as-shown : {l : Latest} {h k : History} {x y : Shown} {drops : ℕ → Bool} {new : ℕ → List (List ℕ)} → x ≡ y → Moved l h y drops new k → Moved l h x drops new k
 as-shown e m = rw e m
 
 -- an entry that shows nothing of history, and keeps it
-released-other : (l : Latest) (g : ℕ) → releasedBy l other g ≡ []
+pub released-other : (l : Latest) (g : ℕ) → releasedBy l other g ≡ []
 unfolding releasedBy
 released-other nobody g = refl
 released-other (gave m f ys rs) g = refl
@@ -96,9 +101,9 @@ released-repeat (gave h k ys rs) m f zs ps g = refl
 unreleased : (fs : Files) (g : ℕ) {rs : List (List ℕ)} → rs ≡ [] → heldIn fs g ++ [] ≡ rs ++ heldIn fs g
 unreleased fs g e = rw e (append-nil (heldIn fs g))
 
-still : {l : Latest} {h : History} → Matches h l → {x : Shown} → x ≡ other → Moved l h x nothing h
-unfolding latestAfter
-still {l} {h} t e = rw e (record { repeats = shown-else refl; moved = λ g. unreleased (h .files) g (released-other l g); matches = t })
+pub still : {l : Latest} {h : History} → Matches h l → {x : Shown} → x ≡ other → Moved l h x never nothing h
+unfolding latestAfter without
+still {l} {h} t e = rw e (record { repeats = shown-else refl; moved = λ g. unreleased (h .files) g (released-other l g); counted = λ g. refl; matches = t })
 
 -- ---- what a release takes, and how many records a reply tells
 
@@ -123,6 +128,12 @@ released-for (Remembered t) fs m f zs ps g = go (isOf (t .master) m)
     go true = held-front fs (t .file .0) g (t .quantity)
     go false = refl
 
+-- and none is dropped
+freed-drops : (w : Memory) (m : Master) (ns : List ℕ) → droppedAfter (freedFor w m) ns ≡ ns
+unfolding freedFor droppedAfter
+freed-drops Nothing m ns = refl
+freed-drops (Remembered t) m ns = by-cond (λ ch. droppedAfter ch ns ≡ ns) (isOf (t .master) m) (λ e. refl) (λ e. refl)
+
 -- what is left is sized as before
 sized-for : {n : ℕ} (w : Memory) (fs : Files) (m : Master) (g : ℕ) → AllSized n (heldIn fs g) → AllSized n (heldIn (applied (freedFor w m) fs) g)
 sized-for w fs m g h = sized-rest (releasedBy (rememberedAs w fs) (told m 0 true [] []) g) (rw (released-for w fs m 0 [] [] g) at h)
@@ -131,21 +142,21 @@ sized-for w fs m g h = sized-rest (releasedBy (rememberedAs w fs) (told m 0 true
 
 -- what a frame comes to is fine if the records held move as the line shows
 Fine : Config → Latest → Inner → Mark → Request → Made → Type 0
-Fine c l i mark q m = Moved l (i .history) (shownFor c q (sentChars mark (m .sent))) nothing (m .inner .history)
+Fine c l i mark q m = Moved l (i .history) (shownFor c q (sentChars mark (m .sent))) never nothing (m .inner .history)
 
 module _ (c : Config) (l : Latest) (i : Inner) (mark : Mark) (q : Request) (t : Matches (i .history) l) where
   refused-fine : (p : Step) → 64 ≤ functionBits (sendingOf (p .says .outcome)) → Fine c l i mark q (finished i q (alone i p))
-  unfolding Fine alone finished changedBy applied replyFunction
+  unfolding Fine alone finished changedBy applied droppedAfter replyFunction
   refused-fine p h = still t (shown-refused c q mark (sendingOf (p .says .outcome)) _ (omega arith))
 
   -- a function that sees no history: its code alone tells that it shows none
   keeps-fine : (p : Step) → eqb (q .function) 0x04 ≡ false → initialises q ≡ false → Fine c l i mark q (finished i q (alone i p))
-  unfolding Fine alone finished changedBy applied
+  unfolding Fine alone finished changedBy applied droppedAfter
   keeps-fine p a b = still t (shown-beside c q _ a b)
 
-  forgot-moved : Moved l (i .history) forgot nothing (changedBy stays Nothing (i .history))
-  unfolding changedBy applied latestAfter
-  forgot-moved = record { repeats = shown-else refl; moved = λ g. unreleased (i .history .files) g (released-forgot l g); matches = record { latest = refl; holds = tt } }
+  forgot-moved : Moved l (i .history) forgot never nothing (changedBy stays Nothing (i .history))
+  unfolding changedBy applied droppedAfter latestAfter without
+  forgot-moved = record { repeats = shown-else refl; moved = λ g. unreleased (i .history .files) g (released-forgot l g); counted = λ g. refl; matches = record { latest = refl; holds = tt } }
 
   abbrev begun : Stepped
   begun = record { step = scanned (restarted (i .core)) (i .areas) (tells []); memory = Nothing; change = stays }
@@ -168,7 +179,7 @@ module _ (c : Config) (l : Latest) (i : Inner) (mark : Mark) (q : Request) (t : 
       (λ e. keeps-fine (internalOf c (i .core) (i .areas) lag q) (rw a) (rw (a, e)))
 
   untold-fine : (o : Outcome) → 64 ≤ functionBits (sendingOf o) → Fine c l i mark q (finished i q (telling i (untold o (i .history .memory))))
-  unfolding Fine telling scanned untold finished changedBy applied replyFunction
+  unfolding Fine telling scanned untold finished changedBy applied droppedAfter replyFunction
   untold-fine o h = still t (shown-refused c q mark (sendingOf o) _ (omega arith))
 
   -- an acknowledging request: the records of the latest reply leave, and the new reply is remembered
@@ -179,15 +190,15 @@ module _ (c : Config) (l : Latest) (i : Inner) (mark : Mark) (q : Request) (t : 
   left = applied freed (i .history .files)
 
   told-moved : (n : ℕ) (b : Bool) → n < 128 → n ≤ length (heldIn left (fileOf q))
-      → Moved l (i .history) (told (masterOf (q .address)) (fileOf q) true (historyChars n b (heldIn left (fileOf q))) (take n (heldIn left (fileOf q)))) nothing
-      (record { memory = Remembered (record { master = masterOf (q .address); file = record { 0 = fileOf q }; dump = dumps q; quantity = n; more = b }); files = left })
-  unfolding latestAfter
+      → Moved l (i .history) (told (masterOf (q .address)) (fileOf q) true (historyChars n b (heldIn left (fileOf q))) (take n (heldIn left (fileOf q)))) never nothing
+      (record { memory = Remembered (record { master = masterOf (q .address); file = record { 0 = fileOf q }; dump = dumps q; quantity = n; more = b }); files = left; dropped = droppedAfter freed (i .history .dropped) })
+  unfolding latestAfter without
   told-moved n b few most =
       let zs = historyChars n b (heldIn left (fileOf q)) in
       let ps = take n (heldIn left (fileOf q)) in
       let k : (g : ℕ) → heldIn (i .history .files) g ≡ releasedBy l (told (masterOf (q .address)) (fileOf q) true zs ps) g ++ heldIn left g =
       λ g. rw (t .latest) (released-for (i .history .memory) (i .history .files) (masterOf (q .address)) (fileOf q) zs ps g) in
-      record { repeats = shown-else refl; moved = λ g. append-nil (heldIn (i .history .files) g) ∙ k g; matches = record { latest = refl; holds = (most, few) } }
+      record { repeats = shown-else refl; moved = λ g. append-nil (heldIn (i .history .files) g) ∙ k g; counted = λ g. rw (freed-drops (i .history .memory) (masterOf (q .address)) (i .history .dropped)); matches = record { latest = refl; holds = (most, few) } }
 
   module _ (sized : (g : ℕ) → AllSized (sizeOf (c .values) g) (heldIn (i .history .files) g)) (a : q .function ≡ 0x04) where
     acked-fine : acknowledges q ≡ true → Fine c l i mark q (finished i q (telling i (toldFrom (c .values) freed left q)))
@@ -202,8 +213,8 @@ module _ (c : Config) (l : Latest) (i : Inner) (mark : Mark) (q : Request) (t : 
         as-shown (e ∙ ap (λ (x : Bool). told (masterOf (q .address)) (fileOf q) x (historyChars n (ltb n (length rs)) rs) (take n rs)) k) m
 
 -- a repeat: the same records to the same master
-abbrev holding : Core → Areas → Memory → Files → Inner
-holding k a w fs = record { core = k; areas = a; history = record { memory = w; files = fs } }
+abbrev holding : Core → Areas → Memory → Files → List ℕ → Inner
+holding k a w fs ns = record { core = k; areas = a; history = record { memory = w; files = fs; dropped = ns } }
 
 pub same-master : (m n : Master) → isOf m n ≡ true → m ≡ n
 unfolding isOf
@@ -216,17 +227,17 @@ agrees-names r q e =
     let m = and-left (isOf (r .master) (masterOf (q .address))) (eqb (r .file .0) (fileOf q) && Bool·beq (r .dump) (dumps q)) e in
     (same-master (r .master) (masterOf (q .address)) m, eqb-true (r .file .0) (fileOf q) (and-left (eqb (r .file .0) (fileOf q)) (Bool·beq (r .dump) (dumps q)) u))
 
-module _ (c : Config) (l : Latest) (k : Core) (a : Areas) (fs : Files) (mark : Mark) (q : Request)
+module _ (c : Config) (l : Latest) (k : Core) (a : Areas) (fs : Files) (ns : List ℕ) (mark : Mark) (q : Request)
     (sized : (g : ℕ) → AllSized (sizeOf (c .values) g) (heldIn fs g)) (function : q .function ≡ 0x04) (plain : acknowledges q ≡ false) where
-  repeat-fine : (r : HistoryReply) → Matches (record { memory = Remembered r; files = fs }) l → r .master ≡ masterOf (q .address) → r .file .0 ≡ fileOf q
-      → Fine c l (holding k a (Remembered r) fs) mark q
-      (finished (holding k a (Remembered r) fs) q (telling (holding k a (Remembered r) fs)
+  repeat-fine : (r : HistoryReply) → Matches (record { memory = Remembered r; files = fs; dropped = ns }) l → r .master ≡ masterOf (q .address) → r .file .0 ≡ fileOf q
+      → Fine c l (holding k a (Remembered r) fs ns) mark q
+      (finished (holding k a (Remembered r) fs ns) q (telling (holding k a (Remembered r) fs ns)
       (record { says = tells (historyChars (r .quantity) (r .more) (heldIn fs (r .file .0))); memory = Remembered r; change = stays })))
-  unfolding Fine latestAfter telling scanned finished changedBy applied
+  unfolding Fine latestAfter without telling scanned finished changedBy applied droppedAfter
   repeat-fine r t em ef =
       let rs = take (r .quantity) (heldIn fs (r .file .0)) in
       let e =
-      shown-told c q (holding k a (Remembered r) fs) mark (r .quantity) (r .more) (heldIn fs (r .file .0)) (Remembered r) stays function (t .holds .1) (t .holds .0)
+      shown-told c q (holding k a (Remembered r) fs ns) mark (r .quantity) (r .more) (heldIn fs (r .file .0)) (Remembered r) stays function (t .holds .1) (t .holds .0)
       (rw (← ef) (sized (r .file .0))) in
       let zs = historyChars (r .quantity) (r .more) (heldIn fs (r .file .0)) in
       let s : told (masterOf (q .address)) (fileOf q) (acknowledges q) zs rs ≡ told (r .master) (r .file .0) false zs rs = rw (← em, ← ef, plain) in
@@ -234,17 +245,18 @@ module _ (c : Config) (l : Latest) (k : Core) (a : Areas) (fs : Files) (mark : M
       (record {
         repeats = λ again. t .latest ∙ ap (latestAfter l) again;
         moved = λ g. unreleased fs g (released-repeat l (r .master) (r .file .0) zs rs g);
+        counted = λ g. refl;
         matches = record { latest = refl; holds = t .holds };
       })
 
-  again-fine : (w : Memory) → Matches (record { memory = w; files = fs }) l
-      → Fine c l (holding k a w fs) mark q (finished (holding k a w fs) q (telling (holding k a w fs) (againWhen w fs q)))
+  again-fine : (w : Memory) → Matches (record { memory = w; files = fs; dropped = ns }) l
+      → Fine c l (holding k a w fs ns) mark q (finished (holding k a w fs ns) q (telling (holding k a w fs ns) (againWhen w fs q)))
   unfolding againWhen
-  again-fine Nothing t = untold-fine c l (holding k a Nothing fs) mark q t NothingAgain (omega arith)
+  again-fine Nothing t = untold-fine c l (holding k a Nothing fs ns) mark q t NothingAgain (omega arith)
   again-fine (Remembered r) t =
-      by-cond {A = Told} (λ x. Fine c l (holding k a (Remembered r) fs) mark q (finished (holding k a (Remembered r) fs) q (telling (holding k a (Remembered r) fs) x))) (agrees r q)
+      by-cond {A = Told} (λ x. Fine c l (holding k a (Remembered r) fs ns) mark q (finished (holding k a (Remembered r) fs ns) q (telling (holding k a (Remembered r) fs ns) x))) (agrees r q)
       (λ e. let n = agrees-names r q e in repeat-fine r t (n .0) (n .1))
-      (λ e. untold-fine c l (holding k a (Remembered r) fs) mark q t NothingAgain (omega arith))
+      (λ e. untold-fine c l (holding k a (Remembered r) fs ns) mark q t NothingAgain (omega arith))
 
 module _ (c : Config) (l : Latest) (i : Inner) (mark : Mark) (t : Matches (i .history) l)
     (sized : (g : ℕ) → AllSized (sizeOf (c .values) g) (heldIn (i .history .files) g)) where
@@ -256,7 +268,7 @@ module _ (c : Config) (l : Latest) (i : Inner) (mark : Mark) (t : Matches (i .hi
       (λ e. by-cond P (counts 0 q)
       (λ e. by-cond P (hasFile (c .files) (fileOf q))
       (λ e. by-cond P (acknowledges q) (acked-fine c l i mark q t sized a)
-      (λ n. again-fine c l (i .core) (i .areas) (i .history .files) mark q sized a n (i .history .memory) t))
+      (λ n. again-fine c l (i .core) (i .areas) (i .history .files) (i .history .dropped) mark q sized a n (i .history .memory) t))
       (λ e. untold-fine c l i mark q t NotValid (omega arith)))
       (λ e. untold-fine c l i mark q t WrongCount (omega arith)))
       (λ e. untold-fine c l i mark q t Unknown (omega arith))
@@ -290,7 +302,7 @@ module _ (c : Config) (l : Latest) (i : Inner) (mark : Mark) (t : Matches (i .hi
 -- a pair: neither is of history, and the WRITE leaves it as it was
 module _ (c : Config) (l : Latest) (i : Inner) (mark : Mark) (t : Matches (i .history) l)
     (sized : (g : ℕ) → AllSized (sizeOf (c .values) g) (heldIn (i .history .files) g)) where
-  beside-fine : (lag : ℕ) (q : Request) → q .function ≡ 0x20 → eqb (q .command) 0x00 ≡ false → Moved l (i .history) other nothing (framed c i lag q .inner .history)
+  beside-fine : (lag : ℕ) (q : Request) → q .function ≡ 0x20 → eqb (q .command) 0x00 ≡ false → Moved l (i .history) other never nothing (framed c i lag q .inner .history)
   unfolding Fine initialises
   beside-fine lag q f e = rw (shown-beside c q (sentChars mark (framed c i lag q .sent)) (rw f) (rw (f, e))) at (framed-fine c l i mark t sized lag q)
 
@@ -298,92 +310,16 @@ module _ (c : Config) (l : Latest) (i : Inner) (mark : Mark) (t : Matches (i .hi
     (sized : (g : ℕ) → AllSized (sizeOf (c .values) g) (heldIn (i .history .files) g)) where
   -- the EXECUTE finds the history that the WRITE found
   after-fine : (j : Inner) (lag : ℕ) (q : Request) → q .function ≡ 0x20 → q .command ≡ 0x31 → j .history ≡ i .history
-      → Moved l (i .history) other nothing (framed c j lag q .inner .history)
+      → Moved l (i .history) other never nothing (framed c j lag q .inner .history)
   after-fine j lag q f k e =
-      subst (λ (h : History). Moved l h other nothing (framed c j lag q .inner .history)) e (beside-fine c l j mark (rw e t) (λ g. rw e (sized g)) lag q f (rw k))
+      subst (λ (h : History). Moved l h other never nothing (framed c j lag q .inner .history)) e (beside-fine c l j mark (rw e t) (λ g. rw e (sized g)) lag q f (rw k))
 
-  judged-fine : (lag : ℕ) (s : List ℕ) → Moved l (i .history) (shownIn c s (heardOf s) (sentChars mark (judged c i lag s (heardOf s) .sent))) nothing (judged c i lag s (heardOf s) .inner .history)
+  pub judged-fine : (lag : ℕ) (s : List ℕ) → Moved l (i .history) (shownIn c s (heardOf s) (sentChars mark (judged c i lag s (heardOf s) .sent))) never nothing (judged c i lag s (heardOf s) .inner .history)
   unfolding Fine shownIn judged quiet requestIn
   judged-fine lag s =
-      by-heard s (λ h. Moved l (i .history) (shownIn c s h (sentChars mark (judged c i lag s h .sent))) nothing (judged c i lag s h .inner .history))
+      by-heard s (λ h. Moved l (i .history) (shownIn c s h (sentChars mark (judged c i lag s h .sent))) never nothing (judged c i lag s h .inner .history))
       (λ w. framed-fine c l i mark t sized lag (requestIn (frameIn s) s)) (still t refl)
-      (λ p. by-pair c i lag s _ _ p (λ m. Moved l (i .history) other nothing (m .inner .history))
+      (λ p. by-pair c i lag s _ _ p (λ m. Moved l (i .history) other never nothing (m .inner .history))
       (λ o m. after-fine _ lag _ (p .executes .0) (p .executes .1) (ap (λ (z : Inner). z .history) (m .inner)))
       (λ e. beside-fine c l i mark t sized lag _ (p .writes .0) (rw (p .writes .1))))
       (still t refl)
-
--- ---- an event
-
--- the same, of any event
-abbrev pub FineEvent : Config → Latest → Inner → Mark → Event → Made → Type 0
-FineEvent c l i mark e m = Moved l (i .history) (shownBy c e (sentChars mark (m .sent))) (storedBy e (i .core .clock) (m .answer)) (m .inner .history)
-
--- a record more at the end of its file: the remembered records stay the oldest
-same-store : (w : Memory) (fs gs : Files) (new : ℕ → List (List ℕ)) → ((g : ℕ) → heldIn gs g ≡ heldIn fs g ++ new g) → Holds w fs
-    → (rememberedAs w fs ≡ rememberedAs w gs) × Holds w gs
-unfolding historyChars
-same-store Nothing fs gs new e h = (refl, tt)
-same-store (Remembered t) fs gs new e h =
-    let n = t .quantity in
-    let f = t .file .0 in
-    let k : take n (heldIn fs f) ≡ take n (heldIn gs f) = sym (ap (take n) (e f) ∙ take-append-le n (heldIn fs f) (new f) (h .0)) in
-    (ap (λ (rs : List (List ℕ)). gave (t .master) f ((n + cond (t .more) 128 0) ∷ flat rs) rs) k, (omega (arith, ap length (e f), length-append (heldIn fs f) (new f), h .0), h .1))
-
-module _ (c : Config) (l : Latest) (i : Inner) (mark : Mark) (t : Matches (i .history) l) where
-  store-moved : (f : ℕ) (r : List ℕ) → f < length (i .history .files)
-      → Moved l (i .history) other (λ g. cond (eqb f g) (r ∷ []) []) (changedBy (adds f r) (i .history .memory) (i .history))
-  unfolding changedBy applied latestAfter
-  store-moved f r there =
-      let fs = i .history .files in
-      let k : (g : ℕ) → heldIn (storeIn fs f r) g ≡ heldIn fs g ++ cond (eqb f g) (r ∷ []) [] = λ g. held-store fs f g r there in
-      let s = same-store (i .history .memory) fs (storeIn fs f r) (λ g. cond (eqb f g) (r ∷ []) []) k (t .holds) in
-      record {
-        repeats = shown-else refl;
-        moved = λ g. sym (k g) ∙ ap (λ (x : List (List ℕ)). x ++ heldIn (storeIn fs f r) g) (sym (released-other l g));
-        matches = record { latest = t .latest ∙ s .0; holds = s .1 };
-      }
-
-  store-fine : (f : File) (e : ℕ) (vs : List ℕ) (x : Stored) → (x ≡ Kept → f .0 < length (i .history .files))
-      → FineEvent c l i mark (local (store f e vs)) (storeMade i (f .0) (recordChars (record { event = e; clock = i .core .clock }) vs) x)
-  unfolding storeMade addedBy changedBy applied sentChars shownBy storedBy storedLocally wasKept
-  store-fine f e vs Kept there = store-moved (f .0) (recordChars (record { event = e; clock = i .core .clock }) vs) (there refl)
-  store-fine f e vs Full there = still t refl
-  store-fine f e vs NotEquipped there = still t refl
-  store-fine f e vs WrongValues there = still t refl
-
-  -- an event that is turned away shows nothing, stores nothing and keeps the history
-  unheard-fine : (s : List ℕ) (h : Heard) → shownIn c s h [] ≡ other
-  unfolding shownIn shownFor
-  unheard-fine s Broken = refl
-  unheard-fine s Wrong = refl
-  unheard-fine s (Whole f) = refl
-  unheard-fine s (Pair w x) = refl
-
-  pub away-fine : (o : Outcome) (e : Event) → Moved l (i .history) (shownBy c e []) (storedBy e (i .core .clock) (Ended o)) (i .history)
-  unfolding shownBy storedBy storedLocally wasKept
-  away-fine o (stretch s) = still t (unheard-fine (s .chars) (heardOf (s .chars)))
-  away-fine o (elapsed ms) = still t refl
-  away-fine o (local (setWord n w)) = still t refl
-  away-fine o (local (setValue n v)) = still t refl
-  away-fine o (local (pulses n p)) = still t refl
-  away-fine o (local (store f e vs)) = still t refl
-
-  module _ (sized : (g : ℕ) → AllSized (sizeOf (c .values) g) (heldIn (i .history .files) g)) (long : length (i .history .files) ≡ 32) where
-    stored-there : (f : ℕ) (vs : List ℕ) → storedAs (c .files) (c .values) (i .history .files) f vs ≡ Kept → f < length (i .history .files)
-    unfolding hasFile
-    stored-there f vs e =
-        let h = ltb-true f 32 (and-left (ltb f 32) _ (stored-kept (c .files) (c .values) (i .history .files) f vs e .equipped)) in
-        omega arith
-
-    local-fine : (e : Local) → FineEvent c l i mark (local e) (localOf c i e)
-    unfolding localOf shownBy storedBy storedLocally quiet sentChars wordMade valueMade localMade
-    local-fine (setWord n w) = still t refl
-    local-fine (setValue n v) = still t refl
-    local-fine (pulses n p) = still t refl
-    local-fine (store f e vs) = store-fine f e vs (storedAs (c .files) (c .values) (i .history .files) (f .0) vs) (stored-there (f .0) vs)
-
-    pub made-fine : (e : Event) → FineEvent c l i mark e (makeOf c i e)
-    unfolding makeOf shownBy storedBy quiet sentChars elapsedMade
-    made-fine (stretch s) = judged-fine c l i mark t sized (s .lag) (s .chars)
-    made-fine (elapsed ms) = still t refl
-    made-fine (local e) = local-fine e

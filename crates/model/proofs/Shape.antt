@@ -2,7 +2,7 @@
 use Prim.Native.Nat.{ℕ, zero, suc, _+_, _*_, _<_}
 use mathlib.Core.Path.{_≡_, refl, ap, _∙_}
 use mathlib.Core.List.{List, [], _∷_, _++_}
-use lib.ListN.{length, take, drop, take-append-drop}
+use lib.ListN.{length, take, drop, take-append-drop, length-set}
 use lib.Dec.{eqb, ltb}
 use native.Mathlib.Omega.{arith}
 use borrow.Author.Tests.{eqb-true, ltb-true}
@@ -12,20 +12,19 @@ use Rattle.chars.proofs.GatherLaws.{gather-each}
 use Rattle.model.specs.Frame.{Request, masterOf}
 use Rattle.model.specs.Config.{Config, hasFile, sizeOf}
 use Rattle.model.specs.State.{Areas, History, State, heldIn, freshAreas, freshHistory, freshOf}
-use Rattle.model.specs.Change.{stays, cuts, adds, applied, changedBy}
+use Rattle.model.specs.Change.{stays, cuts, adds, swaps, applied, droppedAfter, changedBy}
 use Rattle.model.specs.Control.{isOf}
-use Rattle.model.specs.History.{freedFor, toldFrom, recordChars, storedAs}
+use Rattle.model.specs.History.{freedFor, toldFrom, recordChars, sparedIn}
 use Rattle.model.specs.Event.{Event}
 use Rattle.model.specs.Step.{makeOf}
 use Rattle.model.specs.Run.{moves, nextOf, after}
 use Rattle.model.specs.Formed.{AllSized, none, one, Formed}
-use Rattle.model.specs.declared.Stored.the-variants.{Kept}
 use Rattle.model.specs.declared.Master.{Master}
 use Rattle.model.specs.declared.Record.{Record}
 use Rattle.model.specs.declared.Memory.{Memory}
 use Rattle.model.specs.declared.Memory.the-variants.{Nothing, Remembered}
 use Rattle.model.proofs.Conditions.{by-cond, and-left}
-use Rattle.model.proofs.FileLaws.{held-store, held-cut, length-store, length-cut, held-none, toldAfter, newTold, stored-kept}
+use Rattle.model.proofs.FileLaws.{held-store, held-cut, length-store, length-cut, held-none, toldAfter, newTold, TakenIn, stored-kept, stored-swapped}
 use Rattle.model.proofs.Parts.{Parts, InnerHas, Lasts, make-has}
 use Rattle.model.proofs.Runs.{by-next, by-run}
 
@@ -56,15 +55,17 @@ length-record r vs = omega (arith, gather-each word 2 length-word vs)
 
 record HistoryFormed (c : Config) (h : History) : Type 0 where
   files : length (h .files) ≡ 32
+  dropped : length (h .dropped) ≡ 32
   records : (f : ℕ) → AllSized (sizeOf (c .values) f) (heldIn (h .files) f)
 
 module _ (c : Config) where
   -- what is left of a file after a cut is sized as before
   cut-formed : (h : History) (m : Memory) (f at n : ℕ) → HistoryFormed c h → HistoryFormed c (changedBy (cuts f at n) m h)
-  unfolding changedBy applied
+  unfolding changedBy applied droppedAfter
   cut-formed h m f at n k =
       record {
         files = length-cut (h .files) f at n ∙ k .files;
+        dropped = k .dropped;
         records =
             λ g.
             rw (held-cut (h .files) f g at n)
@@ -74,8 +75,8 @@ module _ (c : Config) where
       }
 
   stays-formed : (h : History) (m : Memory) → HistoryFormed c h → HistoryFormed c (changedBy stays m h)
-  unfolding changedBy applied
-  stays-formed h m k = record { files = k .files; records = k .records }
+  unfolding changedBy applied droppedAfter
+  stays-formed h m k = record { files = k .files; dropped = k .dropped; records = k .records }
 
   freed-formed : (w : Memory) (h : History) (p : Master) (m : Memory) → HistoryFormed c h → HistoryFormed c (changedBy (freedFor w p) m h)
   unfolding freedFor
@@ -88,30 +89,35 @@ module _ (c : Config) where
   told-formed h q k = freed-formed (h .memory) h (masterOf (q .address)) _ k
 
   -- a record that is kept has its file's size
-  kept-sized : (h : History) (f : ℕ) (r : Record) (vs : List ℕ) → storedAs (c .files) (c .values) (h .files) f vs ≡ Kept → length (recordChars r vs) ≡ sizeOf (c .values) f
+  taken-sized : (f : ℕ) (r : Record) (vs : List ℕ) → TakenIn c f (length vs) → length (recordChars r vs) ≡ sizeOf (c .values) f
   unfolding sizeOf
-  kept-sized h f r vs e = omega (arith, length-record r vs, stored-kept (c .files) (c .values) (h .files) f vs e .counted)
+  taken-sized f r vs t = omega (arith, length-record r vs, t .counted)
 
-  kept-there : (h : History) (f : ℕ) (vs : List ℕ) → HistoryFormed c h → storedAs (c .files) (c .values) (h .files) f vs ≡ Kept → f < length (h .files)
+  pub taken-there : {m : ℕ} (f n : ℕ) → m ≡ 32 → TakenIn c f n → f < m
   unfolding hasFile
-  kept-there h f vs k e =
-      let t = ltb-true f 32 (and-left (ltb f 32) _ (stored-kept (c .files) (c .values) (h .files) f vs e .equipped)) in
-      omega (arith, k .files)
+  taken-there f n k t = let h = ltb-true f 32 (and-left (ltb f 32) _ (t .equipped)) in omega arith
 
-  kept-formed : (h : History) (f : ℕ) (r : Record) (vs : List ℕ) → storedAs (c .files) (c .values) (h .files) f vs ≡ Kept → HistoryFormed c h
-      → HistoryFormed c (changedBy (adds f (recordChars r vs)) (h .memory) h)
-  unfolding changedBy applied
-  kept-formed h f r vs e k =
+  taken-formed : (h : History) (f : ℕ) (r : Record) (vs : List ℕ) → TakenIn c f (length vs) → HistoryFormed c h → HistoryFormed c (changedBy (adds f (recordChars r vs)) (h .memory) h)
+  unfolding changedBy applied droppedAfter
+  taken-formed h f r vs t k =
       record {
         files = length-store (h .files) f (recordChars r vs) ∙ k .files;
+        dropped = k .dropped;
         records =
             λ g.
-            rw (held-store (h .files) f g (recordChars r vs) (kept-there h f vs k e))
+            rw (held-store (h .files) f g (recordChars r vs) (taken-there f (length vs) (k .files) t))
             (sized-append (k .records g)
             (by-cond (AllSized (sizeOf (c .values) g)) (eqb f g)
-            (λ b. one (kept-sized h f r vs e ∙ ap (sizeOf (c .values)) (eqb-true f g b)) none)
+            (λ b. one (taken-sized f r vs t ∙ ap (sizeOf (c .values)) (eqb-true f g b)) none)
             (λ b. none)));
       }
+
+  -- a swap is a cut and an addition, and counts a drop
+  swapped-formed : (h : History) (f at : ℕ) (r : Record) (vs : List ℕ) → TakenIn c f (length vs) → HistoryFormed c h → HistoryFormed c (changedBy (swaps f at (recordChars r vs)) (h .memory) h)
+  unfolding changedBy applied droppedAfter
+  swapped-formed h f at r vs t k =
+      let z = taken-formed (changedBy (cuts f at 1) (h .memory) h) f r vs t (cut-formed h (h .memory) f at 1 k) in
+      record { files = z .files; dropped = length-set (h .dropped) f _ ∙ k .dropped; records = z .records }
 
 -- ---- the whole, part by part
 
@@ -147,7 +153,8 @@ forming-lasts c =
       lengths = λ a b s h. record { words = s .words ∙ h .words; values = s .values ∙ h .values; fixed = s .fixed ∙ h .fixed };
       told = λ h q g e k. told-formed c h q k;
       forgotten = λ h k. stays-formed c h _ k;
-      kept = kept-formed c;
+      kept = λ h f r vs e k. taken-formed c h f r vs (stored-kept c h f vs e .taken) k;
+      swapped = λ h f r vs e k. swapped-formed c h f (sparedIn (h .memory) f) r vs (stored-swapped c h f vs e .taken) k;
     }
 
 formed-inner : (c : Config) (s : State) → Formed c s → InnerHas (forming c) (s .inner)
@@ -155,7 +162,7 @@ formed-inner c s f =
     record {
       core = record { clock = tt; hold = tt; write = tt };
       areas = record { words = f .words; values = f .values; fixed = f .fixed };
-      history = record { files = f .files; records = f .records };
+      history = record { files = f .files; dropped = f .dropped; records = f .records };
     }
 
 inner-formed : (c : Config) (s : State) → InnerHas (forming c) (s .inner) → Formed c s
@@ -165,6 +172,7 @@ inner-formed c s i =
       values = i .areas .values;
       fixed = i .areas .fixed;
       files = i .history .files;
+      dropped = i .history .dropped;
       records = i .history .records;
     }
 
@@ -176,6 +184,7 @@ fresh-formed c =
       values = refl;
       fixed = refl;
       files = refl;
+      dropped = refl;
       records = λ f. rw (held-none 32 f) none;
     }
 

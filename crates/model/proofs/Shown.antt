@@ -1,7 +1,7 @@
 -- What a reply shows of history on the line: the records that it carries are read back, and no refusal shows any. Assumes nothing.
 use Prim.Native.Nat.{ℕ, _+_, _-_, _%_, _≤_, _<_}
 use mathlib.Core.Path.{_≡_, refl, sym, ap, ap₂, _∙_}
-use mathlib.Core.List.{List, _∷_, _++_, append-assoc}
+use mathlib.Core.List.{List, [], _∷_, _++_, append-assoc}
 use mathlib.Core.Bool.{Bool, true, false, cond, _&&_, and-false}
 use lib.ListN.{length, getD, take, length-append}
 use lib.Seq.{take-at, drop-at, length-take-le}
@@ -66,6 +66,14 @@ data-back r ys =
     take-at ys w (length (replyChars r ys) - 9) e
 
 -- ---- what each reply shows
+
+-- nothing, where nothing is sent
+pub shown-unheard : (c : Config) (s : List ℕ) (h : Heard) → shownIn c s h [] ≡ other
+unfolding shownIn shownFor
+shown-unheard c s Broken = refl
+shown-unheard c s Wrong = refl
+shown-unheard c s (Whole f) = refl
+shown-unheard c s (Pair w x) = refl
 
 module _ (c : Config) (q : Request) where
   -- a request that is neither function 04 nor 20h/00 shows nothing, whatever is sent

@@ -10,7 +10,7 @@ use Rattle.model.specs.Frame.{masterOf}
 use Rattle.model.specs.Config.{Config, validOf, within}
 use Rattle.model.specs.State.{Areas, State, freshCore, freshAreas, freshHistory, freshPort, freshOf}
 use Rattle.model.specs.Clock.{clockFits}
-use Rattle.model.specs.History.{recordChars}
+use Rattle.model.specs.History.{recordChars, sparedIn}
 use Rattle.model.specs.Fits.{masterFits, holdFits, writeFits, coreFits, memoryFits, fileFits, historyFits, areasFit, portFits, fits}
 use Rattle.model.specs.Event.{Event, stretch, elapsed, local}
 use Rattle.model.specs.Step.{makeOf}
@@ -23,9 +23,9 @@ use Rattle.model.specs.declared.Answer.the-variants.{Ended, Storing}
 use Rattle.model.specs.declared.Core.{Core}
 use Rattle.model.specs.declared.Port.{Port}
 use Rattle.model.proofs.Conditions.{and-left, and-right, and-both}
-use Rattle.model.proofs.FileLaws.{held-none, stored-kept}
+use Rattle.model.proofs.FileLaws.{held-none, stored-kept, stored-swapped}
 use Rattle.model.proofs.AreaLaws.{SameLengths}
-use Rattle.model.proofs.PartFits.{heard-fits, setTime-fits, clockAfter-fits, control-fits, heldAfter-fits, write-fits, waitsAfter-fits, FilesFit, history-fits, told-fits, forgotten-fits, kept-fits}
+use Rattle.model.proofs.PartFits.{heard-fits, setTime-fits, clockAfter-fits, control-fits, heldAfter-fits, write-fits, waitsAfter-fits, FilesFit, history-fits, told-fits, forgotten-fits, kept-fits, swapped-fits}
 use Rattle.model.proofs.Parts.{Parts, CoreHas, InnerHas, Lasts, make-has}
 use Rattle.model.proofs.Runs.{by-next, by-run}
 
@@ -77,7 +77,8 @@ fitting-lasts c =
       lengths = lengths-fit c;
       told = told-fits c;
       forgotten = forgotten-fits c;
-      kept = λ h f r vs e g. let k = stored-kept (c .files) (c .values) (h .files) f vs e in kept-fits c h f (recordChars r vs) (k .equipped) (k .room) g;
+      kept = λ h f r vs e g. let k = stored-kept c h f vs e in kept-fits c h f (recordChars r vs) (k .taken .equipped) (k .room) g;
+      swapped = λ h f r vs e g. let k = stored-swapped c h f vs e in swapped-fits c h f (sparedIn (h .memory) f) (recordChars r vs) (omega (arith, k .full, k .free)) g;
     }
 
 -- the numbers that fits tests, and the tests
@@ -126,7 +127,7 @@ fresh-inner c =
     record {
       core = record { clock = refl; hold = refl; write = refl };
       areas = eq-eqb _ _ (length-replicate (c .block) 0);
-      history = history-fits c _ _ (fresh-files c) refl;
+      history = history-fits c _ _ _ (fresh-files c) refl;
     }
 
 pub fresh-fits : (c : Config) → validOf c ≡ true → fits c (freshOf c) ≡ true

@@ -15,6 +15,7 @@ benchConfig =
       calculations = replicate 256 0;
       files = replicate 32 0;
       values = replicate 32 0;
+      oldest = replicate 32 0;
       block = 0;
     }
 

@@ -9,7 +9,7 @@ use Rattle.chars.specs.Gather.{upFrom, every}
 use Rattle.model.specs.Limits.{mostValues, recordSize}
 
 -- unit address; the equipped inputs, outputs and calculations, each a table of 256 in which 0 is not equipped; the 32 files
--- likewise, with how many values a record of each has; the length of the parameter block
+-- likewise, with how many values a record of each has and which of them keep the oldest; the length of the parameter block
 pub record Config : Type 0 where
   pub unit : ℕ
   pub inputs : List ℕ
@@ -17,6 +17,7 @@ pub record Config : Type 0 where
   pub calculations : List ℕ
   pub files : List ℕ
   pub values : List ℕ
+  pub oldest : List ℕ
   pub block : ℕ
 
 -- a number is equipped where its table has no 0; past the table's end none is
@@ -59,6 +60,10 @@ validOf c =
 -- the files are 0 to 31 (History 1)
 unfoldable pub hasFile : List ℕ → ℕ → Bool
 hasFile files f = ltb f 32 && has files f
+
+-- a file marked as keeping the oldest; any other drops its oldest for a new record (Request 7.2)
+unfoldable pub keepsOldest : Config → ℕ → Bool
+keepsOldest c f = has (c .oldest) f
 
 -- a calculation number is 00 to 7Fh (Scans 18)
 unfoldable pub hasCalculation : List ℕ → ℕ → Bool

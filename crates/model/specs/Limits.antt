@@ -57,6 +57,10 @@ longestRecord = recordSize mostValues
 abbrev pub fileRoom : ℕ
 fileRoom = 32
 
+-- a file's number of dropped records stays at 65,535 (Request 7.7)
+abbrev pub mostDropped : ℕ
+mostDropped = 65535
+
 -- a reply carries at most as many records as are heads in what its data leave behind the quantity (History 8)
 abbrev pub mostCarried : ℕ
 mostCarried = (mostData - 1) / recordHead

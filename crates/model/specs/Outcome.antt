@@ -27,7 +27,7 @@ use Rattle.model.specs.declared.Outcome.the-variants.{
 use Rattle.model.specs.declared.Sending.{Sending}
 use Rattle.model.specs.declared.Sending.the-variants.{Normal, Nop, Rst, Unanswered}
 use Rattle.model.specs.declared.Stored.{Stored}
-use Rattle.model.specs.declared.Stored.the-variants.{Kept, Full, NotEquipped, WrongValues}
+use Rattle.model.specs.declared.Stored.the-variants.{Kept, Swapped, Full, NotEquipped, WrongValues}
 use Rattle.model.specs.declared.Answer.{Answer}
 use Rattle.model.specs.declared.Answer.the-variants.{Ended, Storing}
 
@@ -94,9 +94,10 @@ functionBits Unanswered = 0
 unfoldable pub replyFunction : ℕ → Outcome → ℕ
 replyFunction f o = f % 64 + functionBits (sendingOf o)
 
--- storing's own numbers (History 5)
+-- storing's own numbers; a record is kept by a drop too (History 5; Request 7.2)
 abbrev pub storedNumber : Stored → ℕ
 storedNumber Kept = 0
+storedNumber Swapped = 0
 storedNumber Full = 1
 storedNumber NotEquipped = 2
 storedNumber WrongValues = 3

@@ -23,10 +23,11 @@ pub record Areas : Type 0 where
 abbrev pub Files : Type 0
 Files = List (List (List ℕ))
 
--- the latest history reply, and the records (History 6)
+-- the latest history reply, the records, and for each file how many it dropped (History 6; Request 7.7)
 pub record History : Type 0 where
   pub memory : Memory
   pub files : Files
+  pub dropped : List ℕ
 
 -- all that is kept but the port
 pub record Inner : Type 0 where
@@ -66,7 +67,7 @@ unfoldable pub freshAreas : Config → Areas
 freshAreas c = record { words = replicate 256 0; values = replicate 128 0; fixed = replicate 528 0; block = replicate (c .block) 0 }
 
 unfoldable pub freshHistory : History
-freshHistory = record { memory = Nothing; files = replicate 32 [] }
+freshHistory = record { memory = Nothing; files = replicate 32 []; dropped = replicate 32 0 }
 
 unfoldable pub freshPort : Port
 freshPort = record { silence = 0; mark = Fine }

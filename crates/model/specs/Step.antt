@@ -18,7 +18,7 @@ use Rattle.model.specs.Calculations.{calculationsOf, setValueOf}
 use Rattle.model.specs.Control.{Controlled, controlOf, breaks, heldAfter}
 use Rattle.model.specs.Blocks.{WriteResult, Executed, writeOf, executeOf, readOf, dropped, waitsAfter}
 use Rattle.model.specs.Clock.{Timed, setTimeOf, readTimeOf, clockAfter}
-use Rattle.model.specs.History.{Told, historyOf, recordChars, storedAs}
+use Rattle.model.specs.History.{Told, historyOf, recordChars, sparedIn, storedAs}
 use Rattle.model.specs.declared.Outcome.{Outcome}
 use Rattle.model.specs.declared.Outcome.the-variants.{
   Done,
@@ -34,7 +34,7 @@ use Rattle.model.specs.declared.Outcome.the-variants.{
 use Rattle.model.specs.declared.Sending.{Sending}
 use Rattle.model.specs.declared.Sending.the-variants.{Normal, Nop, Rst, Unanswered}
 use Rattle.model.specs.declared.Stored.{Stored}
-use Rattle.model.specs.declared.Stored.the-variants.{Kept, Full, NotEquipped, WrongValues}
+use Rattle.model.specs.declared.Stored.the-variants.{Kept, Swapped, Full, NotEquipped, WrongValues}
 use Rattle.model.specs.declared.Answer.{Answer}
 use Rattle.model.specs.declared.Answer.the-variants.{Ended, Storing}
 use Rattle.model.specs.declared.Action.{Action}
@@ -298,9 +298,10 @@ wordMade i r = localMade i (r .says .outcome) (withWords (i .areas) (r .area))
 unfoldable pub valueMade : Inner → Changed → Made
 valueMade i r = localMade i (r .says .outcome) (withValues (i .areas) (r .area))
 
--- a file that was full sets bit 3 (Frames 10)
+-- a file that was full sets bit 3, whether it drops a record or not (Frames 10; Request 7.6)
 unfoldable pub notedIn : Stored → Core → Core
 notedIn Kept k = k
+notedIn Swapped k = withError k true
 notedIn Full k = withError k true
 notedIn NotEquipped k = k
 notedIn WrongValues k = k
@@ -308,12 +309,13 @@ notedIn WrongValues k = k
 -- a record offered to file f (History 5)
 unfoldable pub storeMade : Inner → ℕ → List ℕ → Stored → Made
 storeMade i f r o =
+    let ch = addedBy o f (sparedIn (i .history .memory) f) r in
     record {
       answer = Storing o;
       action = Rest;
       sent = silent;
-      inner = record { core = notedIn o (i .core); areas = i .areas; history = changedBy (addedBy o f r) (i .history .memory) (i .history) };
-      change = addedBy o f r;
+      inner = record { core = notedIn o (i .core); areas = i .areas; history = changedBy ch (i .history .memory) (i .history) };
+      change = ch;
     }
 
 unfoldable pub localOf : Config → Inner → Local → Made
@@ -321,7 +323,7 @@ localOf c i (setWord n w) = wordMade i (setWordOf (c .inputs) (i .areas .words) 
 localOf c i (setValue n v) = valueMade i (setValueOf (c .calculations) (i .areas .values) (n .0) v)
 localOf c i (pulses n p) = wordMade i (pulsesOf (c .inputs) (i .areas .words) (n .0) p)
 localOf c i (store f e vs) =
-    storeMade i (f .0) (recordChars (record { event = e; clock = i .core .clock }) vs) (storedAs (c .files) (c .values) (i .history .files) (f .0) vs)
+    storeMade i (f .0) (recordChars (record { event = e; clock = i .core .clock }) vs) (storedAs c (i .history) (f .0) vs)
 
 -- what a working unit makes of an event
 unfoldable pub makeOf : Config → Inner → Event → Made

@@ -11,6 +11,7 @@ use Rattle.model.specs.Limits.{
   silenceLimit,
   mostLag,
   fileRoom,
+  mostDropped,
   recordHead,
   longestRecord,
 }
@@ -30,6 +31,7 @@ limitsTold =
       silent = silenceLimit;
       lag = mostLag;
       room = fileRoom;
+      dropped = mostDropped;
       stamp = recordHead;
       slot = longestRecord;
     }

@@ -31,6 +31,9 @@ pub struct File(pub u8);
 impl File {
     // How many records a file holds.
     pub const ROOM: u8 = 32;
+
+    // Where the number of a file's dropped records stays.
+    pub const DROPPED: u16 = 65535;
 }
 
 // ---- frames
@@ -132,9 +135,10 @@ pub enum Sending {
     Unanswered,
 }
 
-// How storing a record ended.
+// How storing a record ended; one that was swapped is kept, and an older record of its file was dropped for it.
 pub enum Stored {
     Kept,
+    Swapped,
     Full,
     NotEquipped,
     WrongValues,
@@ -317,6 +321,7 @@ pub struct Limits {
     pub silent: u16,
     pub lag: u32,
     pub room: u8,
+    pub dropped: u16,
     pub stamp: usize,
     pub slot: usize,
 }
@@ -336,6 +341,7 @@ pub fn limits_told() -> Limits
         silent: Port::SILENT,
         lag: Clock::LAG,
         room: File::ROOM,
+        dropped: File::DROPPED,
         stamp: Record::HEAD,
         slot: Record::LONGEST,
     }

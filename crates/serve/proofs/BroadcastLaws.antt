@@ -65,12 +65,12 @@ module _ (k : Core) (a : Areas) {w : Memory} {p : Port} {ls : List ℕ} {x : Ste
   unfolding scanned
   stirs-refused z e n y = rw (z, e, y) (record { ended = refl; kept = n; areas = refl })
 
-pub makes-broadcast : (k : Core) (a : Areas) (w : Memory) (p : Port) (fs : Files) (mark : Mark) (entry : List ℕ) {x : StepOf} {b d : Areas} {ks ls : List ℕ} {n : Outcome} {r : MadeOf} (o : Outcome)
+pub makes-broadcast : (k : Core) (a : Areas) (w : Memory) (p : Port) (fs : Files) (ns : List ℕ) (mark : Mark) (entry : List ℕ) {x : StepOf} {b d : Areas} {ks ls : List ℕ} {n : Outcome} {r : MadeOf} (o : Outcome)
     → StirPromise x b w p ks n → d ≡ b → o ≡ cond (eqb (numberOf n) 0) BroadcastDone BroadcastRefused
     → r ≡ record { outcome = o; action = Rest; sent = 0 } → Written (withBroadcast (x .core) true) w p ls
-    → MadePromise (broadcastMade (innerOf k a w fs) x) mark d fs p ls entry entry r
+    → MadePromise (broadcastMade (innerOf k a w fs ns) x) mark d fs p ls entry entry r
 unfolding broadcastMade quiet sentChars
-makes-broadcast k a w p fs mark entry o s y z e l =
+makes-broadcast k a w p fs ns mark entry o s y z e l =
     rw e
     (record {
       answered = ap Ended (z ∙ rw (s .ended));

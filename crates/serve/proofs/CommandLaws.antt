@@ -54,7 +54,7 @@ use Rattle.model.specs.declared.Port.{Port}
 use Rattle.layout.specs.Numbers.{Written as Kept}
 use Rattle.serve.specs.declared.step.Step.{Step}
 use Rattle.serve.specs.Promises.{Tame, StepPromise, Unshifted}
-use Rattle.serve.proofs.KeptLaws.{steady-same, steady-then}
+use Rattle.serve.proofs.KeptLaws.{steady-means, steady-same, steady-then}
 use Rattle.serve.proofs.TameLaws.{mute, bare-tame}
 
 -- ---- which step
@@ -200,15 +200,15 @@ module _ (u : List ℕ) where
   unshifted = record { steady = steady-same u; counts = refl }
 
   pub unshifted-words : (v : List ℕ) {ws : List ℕ} → unitIn v ≡ setWords (unitIn u) ws → length v ≡ length u → Unshifted u v
-  unshifted-words v e l = record { steady = record { layout = ap (λ (x : Unit). x .layout) e; config = ap (λ (x : Unit). x .config) e; long = l }; counts = ap (λ (x : Unit). x .counts) e }
+  unshifted-words v e l = record { steady = steady-means u v e refl refl refl l; counts = ap (λ (x : Unit). x .counts) e }
 
   pub unshifted-fixed : (v : List ℕ) {fs : List ℕ} → unitIn v ≡ setFixed (unitIn u) fs → length v ≡ length u → Unshifted u v
-  unshifted-fixed v e l = record { steady = record { layout = ap (λ (x : Unit). x .layout) e; config = ap (λ (x : Unit). x .config) e; long = l }; counts = ap (λ (x : Unit). x .counts) e }
+  unshifted-fixed v e l = record { steady = steady-means u v e refl refl refl l; counts = ap (λ (x : Unit). x .counts) e }
 
   pub unshifted-numbers : (v : List ℕ) → NumbersOnly u v → Unshifted u v
   unshifted-numbers v r =
       record {
-        steady = record { layout = ap (λ (x : Unit). x .layout) (r .means); config = ap (λ (x : Unit). x .config) (r .means); long = r .long };
+        steady = steady-means u v (r .means) refl refl refl (r .long);
         counts = ap (λ (x : Unit). x .counts) (r .means);
       }
 

@@ -116,11 +116,14 @@ module _ (lag : ℕ) (s : List ℕ) (w x : Frame) (p : WholePair s w x) (o m : O
     port-then : portIn (numbersIn (m .unit)) ≡ portHeard (portIn (numbersIn (o .unit))) (take writeFrame s) WriteTaken
     port-then = made .makes .kept .means .port ∙ ap (portHeard (portIn (numbersIn (o .unit))) (take writeFrame s)) outcome-taken
 
-    inner-then : innerOf (coreIn (numbersIn (m .unit))) (areasIn (m .unit) (m .block)) (memoryIn (numbersIn (m .unit))) (filesIn c (m .area) (unitIn (m .unit) .counts)) ≡ wrote .inner
-    inner-then = let k = made .makes .kept .means in λ j. innerOf (k .core j) (made .makes .areas j) (k .memory j) (made .makes .files j)
+    inner-then : innerOf (coreIn (numbersIn (m .unit))) (areasIn (m .unit) (m .block)) (memoryIn (numbersIn (m .unit))) (filesIn c (m .area) (unitIn (m .unit) .counts)) (unitIn (m .unit) .dropped) ≡ wrote .inner
+    inner-then =
+        let k = made .makes .kept .means in
+        let d : unitIn (m .unit) .dropped ≡ wrote .inner .history .dropped = first .1 .dropped ∙ sym (ap (λ (z : Inner). z .history .dropped) (took .inner)) in
+        λ j. innerOf (k .core j) (made .makes .areas j) (k .memory j) (made .makes .files j) (d j)
 
     inner-as : innerIn (m .unit) (m .block) (m .area) ≡ wrote .inner
-    inner-as = rw (first .1 .config) inner-then
+    inner-as = rw (first .1 .steady .config) inner-then
 
     buffer-then : mid ≡ entry
     unfolding sentChars
@@ -139,9 +142,9 @@ module _ (lag : ℕ) (s : List ℕ) (w x : Frame) (p : WholePair s w x) (o m : O
         let e = inner-as ∙ took .inner in
         record {
           ready = record {
-            valid = rw (first .1 .config) (work .ready .valid);
-            fits = ap₂ historyFits (first .1 .config) (ap (λ (z : Inner). z .history) e) ∙ work .ready .fits;
-            room = rw (first .1 .config, area-then) (work .ready .room);
+            valid = rw (first .1 .steady .config) (work .ready .valid);
+            fits = ap₂ historyFits (first .1 .steady .config) (ap (λ (z : Inner). z .history) e) ∙ work .ready .fits;
+            room = rw (first .1 .steady .config, area-then) (work .ready .room);
           };
           numbers = written-readable (made .makes .kept);
           clock = ap (λ (z : Inner). clockFits (z .core .clock)) e ∙ work .clock;
@@ -151,7 +154,7 @@ module _ (lag : ℕ) (s : List ℕ) (w x : Frame) (p : WholePair s w x) (o m : O
     pair-after : (y : Owned) {exit : List ℕ} (z : MadeOf) → FramedPromise lag x (drop writeFrame s) m y mid exit z → JudgedPromise lag s o y entry exit z
     unfolding judged followed
     pair-after y z g =
-        let second = rw (first .1 .config, inner-then, port-then, heard-twice (portIn (numbersIn (o .unit))) (take writeFrame s) (drop writeFrame s) s (z .outcome) front-long behind-long all-long, marked-taken (portIn (numbersIn (o .unit))) (take writeFrame s), counts-then, area-then, buffer-then) at (g .0 (works-then .ready) (works-then .numbers)) in (
+        let second = rw (first .1 .steady .config, inner-then, port-then, heard-twice (portIn (numbersIn (o .unit))) (take writeFrame s) (drop writeFrame s) s (z .outcome) front-long behind-long all-long, marked-taken (portIn (numbersIn (o .unit))) (take writeFrame s), counts-then, area-then, buffer-then) at (g .0 (works-then .ready) (works-then .numbers)) in (
           λ ready numbers. rw (pair-heard s w x p, eq-eqb (answerNumber (wrote .answer)) 5 (outcome-shown ∙ five)) second,
           steady-then _ _ _ (first .1) (g .1),
         )

@@ -32,14 +32,15 @@ use Rattle.port.specs.Heard.{portHeardBy}
 use Rattle.port.proofs.PortLaws.{heard-as}
 use Rattle.layout.specs.Records.{filesIn}
 use Rattle.history.proofs.LayoutLaws.{length-area}
+use Rattle.history.proofs.RunLaws.{stretch-undropped}
 use Rattle.layout.specs.Unit.{Renumbered, unitIn, configIn, numbersIn}
 use Rattle.layout.proofs.UnitLaws.{numbers-left, numbers-only}
 use Rattle.model.proofs.TurnedAway.{short-away, unfit-away, works}
-use Rattle.layout.specs.Kept.{Kept, areasIn, innerOf, stateOf, Owned, keptIn, standing, Steady}
+use Rattle.layout.specs.Kept.{Kept, areasIn, innerOf, stateOf, Owned, keptIn, standing}
 use Rattle.serve.proofs.FitLaws.{stands-again}
 use Rattle.serve.proofs.KeptLaws.{still, steady-same}
 use Rattle.serve.specs.declared.Made.{Made as MadeOf}
-use Rattle.serve.specs.Promises.{MadePromise, MadeInPromise}
+use Rattle.serve.specs.Promises.{Undropped, MadePromise, MadeInPromise}
 use Rattle.serve.proofs.CommandLaws.{unshifted-numbers, numbers-kept}
 use Rattle.serve.proofs.BroadcastLaws.{makes-quiet}
 use Rattle.serve.specs.Stretch.{coming, Turns, StretchPromise}
@@ -139,7 +140,7 @@ module _ (lag : ℕ) (s : List ℕ) (x : Owned) (entry : List ℕ) {r : MadeOf} 
   pub stretch-short : length entry < longestReply → r ≡ record { outcome = BufferShort; action = Rest; sent = 0 } → StretchPromise lag s x x entry entry r
   stretch-short l e =
       record {
-        read = λ t. record { turns = turns-short (configIn (x .unit)) lag s (keptIn x) entry l e; stand = t; steady = steady-same (x .unit) };
+        read = λ t. record { turns = turns-short (configIn (x .unit)) lag s (keptIn x) entry l e; stand = t; steady = steady-same (x .unit) .steady };
         unread = λ _. record { shown = rw (lt-ltb (length entry) longestReply l) e; written = refl; owned = refl };
       }
 
@@ -148,7 +149,7 @@ module _ (lag : ℕ) (s : List ℕ) (x : Owned) (entry : List ℕ) {r : MadeOf} 
       → r ≡ record { outcome = NotConfigured; action = Rest; sent = 0 } → StretchPromise lag s x x entry entry r
   stretch-unfit l b e =
       record {
-        read = λ t. record { turns = turns-unfit (configIn (x .unit)) lag s (keptIn x) entry l (b t) e; stand = t; steady = steady-same (x .unit) };
+        read = λ t. record { turns = turns-unfit (configIn (x .unit)) lag s (keptIn x) entry l (b t) e; stand = t; steady = steady-same (x .unit) .steady };
         unread = λ _. record { shown = rw (le-ltb (length entry) longestReply l) e; written = refl; owned = refl };
       }
 
@@ -189,16 +190,17 @@ pub stretch-made : (lag : ℕ) (s : List ℕ) (x : Owned) (entry : List ℕ) (y 
     → fits (configIn (x .unit)) (stateOf (configIn (x .unit)) (keptIn x)) ≡ true
     → MadeInPromise (configIn (x .unit)) (judged (configIn (x .unit)) (stateOf (configIn (x .unit)) (keptIn x) .inner) lag s (heardOf s))
     (portIn (numbersIn (x .unit)) .mark) (areasIn (y .unit) (y .block)) (filesIn (configIn (x .unit)) (y .area) (unitIn (y .unit) .counts)) (portHeard (portIn (numbersIn (x .unit))) s (m .outcome)) (numbersIn (y .unit))
-    (x .area) (unitIn (x .unit) .counts) (y .area) (unitIn (y .unit) .counts) entry exit m → Steady (x .unit) (y .unit)
+    (x .area) (unitIn (x .unit) .counts) (y .area) (unitIn (y .unit) .counts) entry exit m → Undropped (x .unit) (y .unit)
     → StretchPromise lag s x y entry exit m
 unfolding short makeOf shows moves portAfter changeOf decided
-stretch-made lag s x entry y {exit} m g l b v steady =
+stretch-made lag s x entry y {exit} m g l b v u =
     let c = configIn (x .unit) in
     let t : short (coming entry lag s) ≡ false = le-ltb (length entry) longestReply l in
     let w = works c (stateOf c (keptIn x)) (coming entry lag s) t b in
     let z = v .makes in
     let k = z .kept in
     let port = ap (portAfter (portIn (numbersIn (x .unit))) (coming entry lag s)) (z .answered) in
+    let drops = u .dropped ∙ sym (stretch-undropped c (stateOf c (keptIn x) .inner) lag s) in
     let long : length (y .area) ≡ length (x .area) = ap length (v .changed .moved) ∙ length-area _ _ _ _ in
     record {
       read = λ _. record {
@@ -211,16 +213,16 @@ stretch-made lag s x entry y {exit} m g l b v steady =
           written = z .written ∙ sym (ap (λ (x : Result). put entry 0 (x .reply)) (w .0));
           next = (λ j.
               record {
-                inner = innerOf (k .means .core j) (z .areas j) (k .means .memory j) (z .files j);
+                inner = innerOf (k .means .core j) (z .areas j) (k .means .memory j) (z .files j) (drops j);
                 port = (k .means .port ∙ port) j;
               })
               ∙ sym (w .1);
           changed = rw (t, b) (v .changed);
         };
-        stand = stands-again x y g steady long (written-readable k);
-        steady = steady;
+        stand = stands-again x y g (u .steady) long (written-readable k);
+        steady = u .steady;
       };
-      unread = λ u. false-true (sym u ∙ g);
+      unread = λ n. false-true (sym n ∙ g);
     }
 
 -- what is to be sent lies in the buffer

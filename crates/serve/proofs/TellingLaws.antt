@@ -16,13 +16,14 @@ use Rattle.history.specs.Tell.{ServePromise}
 use Rattle.history.proofs.FitsLaws.{serves-told, serves-shifted, serves-files, serves-written}
 use Rattle.serve.specs.declared.step.Step.{Step}
 use Rattle.layout.specs.Unit.{Unit, unitLong, unitIn, configIn, numbersIn}
-use Rattle.layout.specs.Kept.{areasBy, areasIn, filesHeld, innerIn, Steady}
+use Rattle.layout.specs.Kept.{areasBy, areasIn, filesHeld, historyIn, innerIn}
 use Rattle.serve.proofs.TameLaws.{tame, history-says, told-short}
-use Rattle.serve.specs.Promises.{Ready, StepInPromise}
+use Rattle.serve.specs.Promises.{Undropped, Ready, StepInPromise}
+use Rattle.serve.proofs.KeptLaws.{steady-means}
 
 pub acted-told : (u block area : List ℕ) (q : Request) {m : Stepped} (v : List ℕ) {entry exit area′ : List ℕ} (t : Filled) {r : Step}
     → length u ≡ unitLong → Ready u area → readable (numbersIn u) ≡ true → ServePromise u q area entry t v area′ exit
-    → m ≡ telling (innerIn u block area) (historyOf (configIn u .files) (configIn u .values) (record { memory = memoryIn (numbersIn u); files = filesHeld u area }) q)
+    → m ≡ telling (innerIn u block area) (historyOf (configIn u .files) (configIn u .values) (historyIn u area) q)
     → r ≡ record { outcome = t .outcome; action = Rest; count = t .count }
     → StepInPromise (configIn u) m (areasIn v block) (filesHeld u area) (filesIn (configIn u) area′ (unitIn v .counts)) (portIn (numbersIn u)) (numbersIn v) area (unitIn u .counts) area′ (unitIn v .counts) entry exit r
 unfolding telling scanned
@@ -41,11 +42,11 @@ acted-told u block area q v t long y stands s z e =
         written = w .sent .written;
         kept = k;
         areas = ap (λ (x : Unit). areasBy x block) (s .left);
-        tame = tame (history-says (configIn u .files) (configIn u .values) (record { memory = memoryIn (numbersIn u); files = filesHeld u area }) q) (omega (arith, w .sent .counted));
+        tame = tame (history-says (configIn u .files) (configIn u .values) (historyIn u area) q) (omega (arith, w .sent .counted));
       };
       files = f;
       changed = record { moved = ch .0; counted = ch .1 };
     })
 
-pub told-steady : (u v : List ℕ) {area entry area′ exit : List ℕ} {q : Request} {t : Filled} → ServePromise u q area entry t v area′ exit → Steady u v
-told-steady u v s = record { layout = ap (λ (x : Unit). x .layout) (s .left); config = ap (λ (x : Unit). x .config) (s .left); long = s .long }
+pub told-steady : (u v : List ℕ) {area entry area′ exit : List ℕ} {q : Request} {t : Filled} → ServePromise u q area entry t v area′ exit → Undropped u v
+told-steady u v s = steady-means u v (s .left) refl refl refl (s .long)

@@ -30,7 +30,7 @@ use Rattle.layout.specs.Numbers.{coreIn, memoryIn, portIn, readable, Written}
 use Rattle.layout.specs.Unit.{unitIn, configIn, numbersIn, NumbersOnly}
 use Rattle.layout.specs.Records.{filesIn, roomOf}
 use Rattle.port.specs.Heard.{portHeardBy}
-use Rattle.layout.specs.Kept.{areasIn, filesHeld, innerBy, innerIn, Owned, ownedOf, Steady}
+use Rattle.layout.specs.Kept.{areasIn, filesHeld, historyIn, innerBy, innerIn, Owned, ownedOf, Steady}
 use Rattle.serve.specs.Changes.{Shifted}
 use Rattle.serve.specs.declared.step.Step.{Step}
 use Rattle.serve.specs.declared.Made.{Made as MadeOf}
@@ -41,15 +41,20 @@ use Rattle.serve.specs.declared.Made.{Made as MadeOf}
 abbrev pub NumbersPromise : List ℕ → List ℕ → Core → Memory → Port → Type 0
 NumbersPromise u v core memory port = (readable (numbersIn u) ≡ true → Written core memory port (numbersIn v)) × NumbersOnly u v
 
--- a memory that keeps its configuration, its length and its counts of records
-pub record Unshifted (u v : List ℕ) : Type 0 where
+-- a steady memory that tells of no more drops, as every stretch leaves it (Request 7.7)
+pub record Undropped (u v : List ℕ) : Type 0 where
   pub steady : Steady u v
+  pub dropped : unitIn v .dropped ≡ unitIn u .dropped
+
+-- and that keeps its counts of records
+pub record Unshifted (u v : List ℕ) : Type 0 where
+  pub steady : Undropped u v
   pub counts : unitIn v .counts ≡ unitIn u .counts
 
 -- a configuration that is valid, and a history in range in the room that is asked for
 pub record Ready (u area : List ℕ) : Type 0 where
   pub valid : validOf (configIn u) ≡ true
-  pub fits : historyFits (configIn u) (record { memory = memoryIn (numbersIn u); files = filesHeld u area }) ≡ true
+  pub fits : historyFits (configIn u) (historyIn u area) ≡ true
   pub room : roomOf (configIn u) ≤ length area
 
 -- the same with numbers that mean something, and a clock in range
@@ -105,7 +110,7 @@ ActPromise lag q x y entry exit r =
     → StepInPromise (configIn (x .unit)) (stepOf (configIn (x .unit)) (innerIn (x .unit) (x .block) (x .area)) lag q)
     (areasIn (y .unit) (y .block)) (filesHeld (x .unit) (x .area)) (filesIn (configIn (x .unit)) (y .area) (unitIn (y .unit) .counts))
     (portIn (numbersIn (x .unit))) (numbersIn (y .unit)) (x .area) (unitIn (x .unit) .counts) (y .area) (unitIn (y .unit) .counts) entry exit r)
-    × Steady (x .unit) (y .unit)
+    × Undropped (x .unit) (y .unit)
 
 -- ---- what was made of a stretch, with its reply sent under a mark
 
@@ -132,7 +137,7 @@ OwnedPromise m p x y entry exit r =
     → MadeInPromise (configIn (x .unit)) m (portIn (numbersIn (x .unit)) .mark) (areasIn (y .unit) (y .block))
     (filesIn (configIn (x .unit)) (y .area) (unitIn (y .unit) .counts)) p (numbersIn (y .unit))
     (x .area) (unitIn (x .unit) .counts) (y .area) (unitIn (y .unit) .counts) entry exit r)
-    × Steady (x .unit) (y .unit)
+    × Undropped (x .unit) (y .unit)
 
 -- a frame for this unit, in a stretch of n characters
 abbrev pub ServedPromise : ℕ → Request → ℕ → Owned → Owned → List ℕ → List ℕ → MadeOf → Type 0

@@ -37,7 +37,7 @@ use Rattle.layout.specs.Numbers.{
 use Rattle.layout.proofs.NumbersLaws.{written-readable}
 use Rattle.layout.specs.Unit.{unitLong, Unit, unitIn, configIn, numbersIn, configGiven, setNumbers, blankUnit, blankOf, Renumbered}
 use Rattle.layout.specs.Regions.{startIn}
-use Rattle.layout.proofs.UnitLaws.{renumbered-then}
+use Rattle.layout.proofs.UnitLaws.{configFigure, renumbered-then}
 use Rattle.layout.proofs.BlankLaws.{blank-long, blank-means}
 use Rattle.layout.specs.Kept.{keptOf, stateOf, ownedOf, keptIn, standing}
 use Rattle.unit.specs.Fresh.{freshUnit, FreshPromise}
@@ -69,7 +69,7 @@ unfolding freshCore freshPort numbersOf holdNumbers writeNumbers memoryNumbers m
 fresh-numbers c = refl
 
 -- the memory of a configuration's characters, the clock kept in it and then the configure bit
-pub fresh-kept : (cs : List ℕ) {u v w : List ℕ} → length cs ≡ 836 → u ≡ blankUnit cs
+pub fresh-kept : (cs : List ℕ) {u v w : List ℕ} → length cs ≡ configFigure → u ≡ blankUnit cs
     → Renumbered u v (putClock (record { day = 1; hour = 0; minute = 0; second = 0; ms = 0 }) (numbersIn u)) → Renumbered v w (putConfigure true (numbersIn v))
     → (unitIn w ≡ freshUnit (configGiven cs)) × (length w ≡ unitLong)
 unfolding startIn
@@ -102,9 +102,9 @@ module _ (cs : List ℕ) {n : ℕ} (as-said : n ≡ configGiven cs .block) {u bl
       let w = fresh-written .means in
       let ks = laid-numbers in
       let x = f .means in
-      (λ i. stateOf (configIn u) (keptOf (coreIn (ks i)) (memoryIn (ks i)) (portIn (ks i)) (x i .words) (x i .values) (x i .fixed) (blank i) area (x i .counts)))
+      (λ i. stateOf (configIn u) (keptOf (coreIn (ks i)) (memoryIn (ks i)) (portIn (ks i)) (x i .words) (x i .values) (x i .fixed) (blank i) area (x i .counts) (x i .dropped)))
       ∙ (λ i. stateOf (configIn u)
-      (keptOf (w .core i) (w .memory i) (w .port i) (replicate 256 0) (replicate 128 0) (replicate 528 0) (replicate (configIn u .block) 0) area (replicate 32 0)))
+      (keptOf (w .core i) (w .memory i) (w .port i) (replicate 256 0) (replicate 128 0) (replicate 528 0) (replicate (configIn u .block) 0) area (replicate 32 0) (replicate 32 0)))
       ∙ rw (files-none (packed (configIn u)) (configIn u .values) area)
 
   pub laid-stands : roomOf (configIn u) ≤ length area → standing (ownedOf u bl area) ≡ true

@@ -21,6 +21,7 @@ pub struct Equipment {
     pub calculations: [u8; INPUTS],
     pub files: [u8; FILES],
     pub values: [u8; FILES],
+    pub oldest: [u8; FILES],
 }
 
 /// How much of what is set aside is lent.
@@ -58,6 +59,7 @@ extern "C" {
     fn osturdam_layout() -> u16;
     fn osturdam_valid(config: &[u8; CONFIG]) -> u8;
     fn osturdam_room(config: &[u8; CONFIG]) -> u64;
+    fn osturdam_dropped(unit: &[u8; UNIT], file: u8) -> u16;
     fn osturdam_fresh(
         unit: &mut [u8; UNIT], block: *mut u8, length: u64, config: &[u8; CONFIG]);
     fn osturdam_stretch(
@@ -141,6 +143,7 @@ impl Equipment {
             calculations: [0; INPUTS],
             files: [0; FILES],
             values: [0; FILES],
+            oldest: [0; FILES],
         }
     }
 
@@ -158,6 +161,7 @@ impl Equipment {
         lay(header::AT_CALCULATIONS, &self.calculations);
         lay(header::AT_FILES, &self.files);
         lay(header::AT_VALUES, &self.values);
+        lay(header::AT_OLDEST, &self.oldest);
         made
     }
 }
@@ -204,6 +208,11 @@ impl Memory {
 
     pub fn word(&self, input: u8) -> u16 {
         word_at(&self.chars, header::AT_WORDS + 2 * usize::from(input))
+    }
+
+    /// How many records of a file the library says were dropped.
+    pub fn dropped(&self, file: u8) -> u16 {
+        unsafe { osturdam_dropped(&self.chars, file) }
     }
 
     /// How many records a file holds.

@@ -17,6 +17,7 @@ pub fn config_of(e: &Equipment) -> Config {
     }
     for f in 0..FILES {
         config.files[f] = (e.files[f] != 0).then_some(e.values[f]);
+        config.oldest[f] = e.oldest[f] != 0;
     }
     config
 }
@@ -90,6 +91,10 @@ pub fn memory_of(config: &[u8; CONFIG], state: &State) -> Memory {
     made.lay(
         header::AT_RESULTS,
         state.values.map(u32::to_le_bytes).as_flattened(),
+    );
+    made.lay(
+        header::AT_DROPPED,
+        state.dropped.map(u16::to_le_bytes).as_flattened(),
     );
     made.lay(header::AT_00, &state.fixed.block_00);
     made.lay(header::AT_03, &state.fixed.block_03);

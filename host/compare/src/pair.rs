@@ -35,6 +35,8 @@ pub struct Pair {
     pub unit: Box<Unit>,
     /// The proved unit's kept numbers before the latest event.
     pub before: [u16; KEPT],
+    /// Whether the file of the latest record to store was full.
+    pub full: bool,
     /// The configuration as characters: no event changes one.
     chars: [u8; CONFIG],
     params: Vec<u8>,
@@ -44,6 +46,12 @@ pub struct Pair {
     other: [u8; BUFFER],
     sent: usize,
     fault: Option<&'static Fault>,
+}
+
+/// Whether a record is to be stored in a file that is full.
+fn full(event: &Event, state: &State) -> bool {
+    let held = |file: &u8| state.files.get(usize::from(*file)).map_or(0, Vec::len);
+    matches!(event, Event::Store { file, .. } if held(file) == header::ROOM)
 }
 
 impl Pair {
@@ -77,6 +85,7 @@ impl Pair {
             equipment: scene.equipment.clone(),
             places,
             before: unit.memory.all_kept(),
+            full: false,
             chars,
             params: scene.params.clone(),
             records: unit.records.to_vec(),
@@ -103,6 +112,7 @@ impl Pair {
         self.reply[..sent].copy_from_slice(&PATTERN[..sent]);
         self.other[..sent].copy_from_slice(&PATTERN[..sent]);
         self.before = self.unit.memory.all_kept();
+        self.full = full(event, &self.state);
         let mut turned = proved(&mut self.unit, self.lent, &mut self.reply, event);
         if let Some(fault) = self.fault {
             (fault.plant)(
@@ -188,7 +198,19 @@ impl Pair {
             &self.params,
             &self.unit,
         )
+        .or_else(|| self.dropped_differ(event))
         .or_else(|| self.records_differ(event, answer.outcome))
+    }
+
+    /// The call that tells how many records were dropped, of the file of a record to store.
+    fn dropped_differ(&self, event: &Event) -> Option<String> {
+        let Event::Store { file, .. } = event else {
+            return None;
+        };
+        let (proved, kept) = (self.unit.memory.dropped(*file), &self.state.dropped);
+        let independent = kept.get(usize::from(*file)).copied().unwrap_or(0);
+        (proved != independent)
+            .then(|| format!("dropped: proved {proved}, independent {independent}"))
     }
 
     /// Only a record stored or released may change characters of records, those of no record too; nothing may those behind what is asked for.

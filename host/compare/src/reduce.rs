@@ -70,6 +70,7 @@ fn simpler_start(failure: &mut Run, fault: Option<&'static Fault>) {
     for file in 0..FILES {
         try_start(failure, fault, |s| s.state.files[file].clear());
         try_start(failure, fault, |s| s.equipment.files[file] = 0);
+        try_start(failure, fault, |s| s.equipment.oldest[file] = 1);
     }
     for at in (0..INPUTS).step_by(16) {
         try_start(failure, fault, |s| s.equipment.inputs[at..at + 16].fill(0));
@@ -91,7 +92,7 @@ fn try_start(failure: &mut Run, fault: Option<&'static Fault>, simpler: impl Fn(
 }
 
 /// Ways to make a start simpler; the first makes all of it so.
-const SIMPLER: [fn(&mut Scene); 13] = [
+const SIMPLER: [fn(&mut Scene); 14] = [
     |s| {
         s.state = State::fresh();
         s.params = vec![0; BLOCK];
@@ -102,6 +103,7 @@ const SIMPLER: [fn(&mut Scene); 13] = [
     |s| s.lent.records = header::RECORDS,
     |s| s.state.words = [0; 256],
     |s| s.state.values = [0; 128],
+    |s| s.state.dropped = [0; FILES],
     |s| s.state.fixed = FixedArea::EMPTY,
     |s| (s.state.select, s.state.timed_out) = (None, None),
     |s| s.state.write = None,

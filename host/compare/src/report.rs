@@ -25,7 +25,14 @@ pub fn print(failure: &Run, fault: Option<&'static Fault>) {
 fn print_equipment(e: &Equipment) {
     let files: Vec<String> = (0..FILES)
         .filter(|&f| e.files[f] != 0)
-        .map(|f| format!("{f} of {}", e.values[f]))
+        .map(|f| {
+            (
+                f,
+                e.values[f],
+                ["newest", "oldest"][usize::from(e.oldest[f] != 0)],
+            )
+        })
+        .map(|(f, values, keeps)| format!("{f} of {values} keeps the {keeps}"))
         .collect();
     println!("  unit {} with a parameter block of {}", e.unit, e.length);
     println!(
@@ -86,6 +93,7 @@ fn print_areas(s: &State, block: &[u8]) {
     let parts = [
         ("words", s.words.map(u16::to_le_bytes).concat()),
         ("values", s.values.map(u32::to_le_bytes).concat()),
+        ("dropped", s.dropped.map(u16::to_le_bytes).concat()),
         ("block 00", s.fixed.block_00.to_vec()),
         ("block 03", s.fixed.block_03.to_vec()),
         ("block 0B", s.fixed.block_0b.to_vec()),

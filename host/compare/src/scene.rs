@@ -166,6 +166,8 @@ fn room(rng: &mut Rng, asked: usize) -> usize {
 /// None, a few or all; sizes at which a dump just fits, or just does not, are common. Others have any number of values.
 fn equip_files(rng: &mut Rng, made: &mut Equipment) {
     rng.fill(&mut made.values);
+    // files that keep the oldest, equipped or not
+    equip(rng, &mut made.oldest, 40, |_| true);
     let many = rng.pick(&[0, 1, 2, 3, 3, 4, 4, 12, FILES]);
     for i in 0..many {
         let file = if many == FILES { i } else { rng.below(FILES) };

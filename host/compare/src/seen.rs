@@ -10,7 +10,7 @@ use independent::{Answer, Clock};
 type Known = fn(&Event, &Pair, &Answer) -> bool;
 
 /// What must have been seen.
-pub const SEEN: [(&str, Known); 63] = [
+pub const SEEN: [(&str, Known); 69] = [
     ("reply of 511 data characters", |_, _, a| a.sent == REPLY),
     ("table scan of 255 words", |_, p, a| {
         a.sent == REPLY - 1 && p.reply()[2] == 0x0A
@@ -99,6 +99,29 @@ pub const SEEN: [(&str, Known); 63] = [
         "record of a file behind one that is not equipped",
         |e, p, a| stored(e, a).is_some_and(|f| p.places.skips_to(f)),
     ),
+    ("oldest record dropped for a new one", |e, p, a| {
+        drops(e, p, a).is_some_and(|_| p.before[MEMORY] == 0)
+    }),
+    (
+        "record dropped behind those of the latest reply",
+        |e, p, a| drops(e, p, a).is_some_and(|f| spared(p, f) > 0),
+    ),
+    (
+        "record dropped beside a reply of another file",
+        |e, p, a| {
+            drops(e, p, a)
+                .is_some_and(|f| p.before[MEMORY_QUANTITY] > 0 && p.before[MEMORY_FILE] != f as u16)
+        },
+    ),
+    ("record dropped past all that is told", |e, p, a| {
+        drops(e, p, a).is_some_and(|f| usize::from(p.unit.memory.dropped(f as u8)) == DROPPED)
+    }),
+    ("none dropped of 32 in the latest reply", |e, p, a| {
+        refuses(e, p, a).is_some_and(|f| p.equipment.oldest[f] == 0 && spared(p, f) == ROOM)
+    }),
+    ("none dropped of a file that keeps the oldest", |e, p, a| {
+        refuses(e, p, a).is_some_and(|f| p.equipment.oldest[f] != 0 && spared(p, f) < ROOM)
+    }),
     ("NOP with data", |_, p, a| {
         a.sent > 9 && p.reply()[2] & 0x40 != 0
     }),
@@ -222,6 +245,31 @@ fn stored(event: &Event, answer: &Answer) -> Option<usize> {
     match event {
         Event::Store { file, .. } if answer.outcome == STORED as u8 => Some((*file).into()),
         _ => None,
+    }
+}
+
+/// The full file that took a record.
+fn drops(event: &Event, pair: &Pair, answer: &Answer) -> Option<usize> {
+    stored(event, answer).filter(|_| pair.full)
+}
+
+/// The full file that refused a record.
+fn refuses(event: &Event, pair: &Pair, answer: &Answer) -> Option<usize> {
+    match event {
+        Event::Store { file, .. } if pair.full && answer.outcome == FILE_FULL as u8 => {
+            Some((*file).into())
+        }
+        _ => None,
+    }
+}
+
+/// How many records of a file the latest history reply carried.
+fn spared(pair: &Pair, file: usize) -> usize {
+    let own = pair.before[MEMORY] == 1 && usize::from(pair.before[MEMORY_FILE]) == file;
+    if own {
+        pair.before[MEMORY_QUANTITY].into()
+    } else {
+        0
     }
 }
 

@@ -38,6 +38,7 @@ pub fn state(rng: &mut Rng, e: &Equipment) -> State {
         };
         made.files[file] = records(rng, e.values[file], many);
     }
+    made.dropped = std::array::from_fn(|_| dropped(rng));
     made.history = memory(rng, e, &made);
     (made.silence, made.mark) = port(rng);
     made
@@ -137,6 +138,12 @@ pub fn many_records(rng: &mut Rng, e: &Equipment) -> usize {
     } else {
         many
     }
+}
+
+/// How many records a file dropped: often all that can be told, or one less.
+fn dropped(rng: &mut Rng) -> u16 {
+    let (most, any) = (header::DROPPED as u16, rng.word());
+    rng.pick(&[0, 1, 255, most - 1, most, most, any])
 }
 
 /// Records no longer than their places, even where the configuration asks for more values than it may.

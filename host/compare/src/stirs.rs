@@ -16,10 +16,11 @@ pub fn stirs(rng: &mut Rng, pair: &Pair, aim: Aim) -> Vec<Change> {
         Aim::Both if rng.percent(40) => rng.pick(&[1, 2]),
         Aim::History if rng.percent(30) => rng.pick(&[3, 3, 10]),
         Aim::Store if rng.percent(8) => 10,
+        Aim::Store if rng.percent(15) => 12,
         Aim::Tables if rng.percent(8) => 11,
         Aim::Elapsed if rng.percent(70) => rng.pick(&[0, 1, 2, 5]),
         Aim::SetTime | Aim::ReadTime if rng.percent(20) => 0,
-        _ if rng.percent(6) => rng.below(12),
+        _ if rng.percent(6) => rng.below(13),
         _ => return Vec::new(),
     };
     change(rng, pair, of_aim)
@@ -43,6 +44,7 @@ fn change(rng: &mut Rng, pair: &Pair, part: usize) -> Vec<Change> {
         8 => Change::Fixed(rng.below(header::FIXED - 7), rng.bytes(8)),
         9 => Change::Block(rng.below(BLOCK - 7), rng.bytes(8)),
         10 => return records(rng, pair),
+        12 => return filled(rng, pair),
         _ => Change::Fixed(
             header::AT_03 - header::AT_FIXED,
             shapes::tables(rng, e).to_vec(),
@@ -78,6 +80,19 @@ fn records(rng: &mut Rng, pair: &Pair) -> Vec<Change> {
     {
         made.push(Change::Memory(None));
     }
+    made
+}
+
+/// Every file full that has a place for it, and then a reply remembered from one of them, or none.
+fn filled(rng: &mut Rng, pair: &Pair) -> Vec<Change> {
+    let (e, mut state) = (&pair.equipment, pair.state.clone());
+    let equipped: Vec<usize> = (0..header::FILES).filter(|&f| e.files[f] != 0).collect();
+    let mut made = vec![Change::Memory(None)];
+    for file in equipped.into_iter().take(4) {
+        state.files[file] = shapes::records(rng, e.values[file], header::ROOM);
+        made.push(Change::Records(file, state.files[file].clone()));
+    }
+    made.push(Change::Memory(shapes::memory(rng, e, &state)));
     made
 }
 

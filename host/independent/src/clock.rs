@@ -101,7 +101,7 @@ fn from_bcd(character: u8) -> Option<u8> {
     (tens < 10 && units < 10).then_some(tens * 10 + units)
 }
 
-/// Function 20h command 38h: takes the time sent plus the lag since its sync point, or gives 7 or 8.
+/// Function 20h command 38h: takes the time sent plus the lag since then, or gives 7 or 8.
 pub fn set(state: &mut State, data: &[u8], lag: u32) -> u8 {
     let Ok(characters) = <[u8; 7]>::try_from(data) else {
         return outcome::COUNT;

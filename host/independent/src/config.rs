@@ -53,6 +53,8 @@ pub struct Config {
     pub calculations: [bool; 256],
     /// The number of values in a record of each file; None is not equipped.
     pub files: [Option<u8>; 32],
+    /// Which files keep the oldest when full, while others drop it; an absent one may be marked.
+    pub oldest: [bool; 32],
     /// The length of the parameter block, valid to 512.
     pub parameter_length: usize,
 }
@@ -63,7 +65,7 @@ impl Config {
     /// The longest parameter block.
     pub const LONGEST_PARAMETERS: usize = 512;
 
-    /// A unit with nothing equipped and no parameter block.
+    /// A unit with nothing equipped and no parameter block; all files are marked, as of old.
     pub fn new(unit: u16) -> Self {
         Config {
             unit,
@@ -71,6 +73,7 @@ impl Config {
             outputs: [false; 256],
             calculations: [false; 256],
             files: [None; 32],
+            oldest: [true; 32],
             parameter_length: 0,
         }
     }

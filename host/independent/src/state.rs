@@ -17,7 +17,7 @@ pub struct State {
     pub clock: Clock,
     /// Status bit 7: tables are to be loaded.
     pub bit7: bool,
-    /// Status bit 3: a file was full.
+    /// Status bit 3: a file was full, whether it dropped a record or refused one.
     pub bit3: bool,
     /// Status bit 2: a broadcast came.
     pub bit2: bool,
@@ -31,6 +31,8 @@ pub struct State {
     pub history: Option<HistoryReply>,
     /// The 32 files, each its held records, oldest first.
     pub files: Vec<Vec<Vec<u8>>>,
+    /// The number of records that each file dropped, up to 65,535, where it stays.
+    pub dropped: [u16; history::FILES],
     /// The word of each input number.
     pub words: [u16; 256],
     /// The value of each calculation number, as a 32-bit pattern.
@@ -56,6 +58,7 @@ impl State {
             write: None,
             history: None,
             files: vec![Vec::new(); history::FILES],
+            dropped: [0; history::FILES],
             words: [0; 256],
             values: [0; 128],
             fixed: FixedArea::EMPTY,

@@ -56,16 +56,37 @@ impl Config {
         self.with(header::AT_CALCULATIONS, calculation.0, 1)
     }
 
-    /// With this history file, whose records have so many values: 1 to [`VALUES`](crate::VALUES).
+    /// With this history file, whose records have so many values: 1 to [`VALUES`](crate::VALUES). It keeps the oldest, unless
+    /// [`Config::newest`] says otherwise.
     #[must_use]
     pub fn file(mut self, file: File, values: u8) -> Config {
         if u32::from(file.0) < header::FILES {
             return self
                 .with(header::AT_FILES, file.0, 1)
-                .with(header::AT_VALUES, file.0, values);
+                .with(header::AT_VALUES, file.0, values)
+                .with(header::AT_OLDEST, file.0, 1);
         }
         // the tables end there, so the refusal is asked for by the address
         self.put_word(header::AT_NUMBER, NO_UNIT);
+        self
+    }
+
+    /// With this file keeping the newest: full, it drops its oldest record that is not in the latest history reply, and takes a new one.
+    ///
+    /// ```
+    /// use osturdam::{Config, File, Stored, Unit, ROOM};
+    ///
+    /// let mut unit = Unit::fresh(Config::new(1).file(File(0), 1).newest(File(0)));
+    /// for value in 0..=ROOM as u16 {
+    ///     assert_eq!(unit.store_record(File(0), 7, &[value]), Stored::Stored);
+    /// }
+    /// assert_eq!((unit.held(File(0)), unit.dropped(File(0))), (Some(32), Some(1)));
+    /// ```
+    #[must_use]
+    pub fn newest(self, file: File) -> Config {
+        if u32::from(file.0) < header::FILES {
+            return self.with(header::AT_OLDEST, file.0, 0);
+        }
         self
     }
 
@@ -131,6 +152,11 @@ impl Config {
     pub fn values(&self, file: File) -> Option<u8> {
         let equipped = u32::from(file.0) < header::FILES && self.at(header::AT_FILES, file.0) != 0;
         equipped.then(|| self.at(header::AT_VALUES, file.0))
+    }
+
+    /// Whether a file keeps the oldest, and refuses a record when it is full.
+    pub fn keeps_oldest(&self, file: File) -> bool {
+        u32::from(file.0) < header::FILES && self.at(header::AT_OLDEST, file.0) != 0
     }
 
     /// How long the parameter block is.

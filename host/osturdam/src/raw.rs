@@ -24,6 +24,7 @@ extern "C" {
     fn osturdam_check(start: u16, chars: *const u8, count: u64) -> u16;
     fn osturdam_valid(config: *const [u8; CONFIG]) -> u8;
     fn osturdam_room(config: *const [u8; CONFIG]) -> u64;
+    fn osturdam_dropped(unit: *const Chars, file: u8) -> u16;
     fn osturdam_fresh(
         unit: *mut Chars, block: *mut u8, length: u64, config: *const [u8; CONFIG]);
     fn osturdam_stretch(
@@ -59,6 +60,11 @@ pub(crate) fn valid(config: &Config) -> bool {
 pub(crate) fn room(config: &Config) -> u64 {
     // SAFETY: above.
     unsafe { osturdam_room(config.chars()) }
+}
+
+pub(crate) fn dropped(m: &Memory, file: u8) -> u16 {
+    // SAFETY: above.
+    unsafe { osturdam_dropped(&m.unit, file) }
 }
 
 pub(crate) fn fresh(m: &mut Memory, config: &Config) {

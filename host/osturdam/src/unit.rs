@@ -103,6 +103,11 @@ impl Unit {
         counts.get(usize::from(file.0)).copied()
     }
 
+    /// How many records of a file the unit has dropped, if it is one of the unit's 32: to 65,535, where it stays.
+    pub fn dropped(&self, file: File) -> Option<u16> {
+        (u32::from(file.0) < header::FILES).then(|| raw::dropped(&self.memory, file.0))
+    }
+
     /// The characters of a record that a file holds; record 0 is the oldest.
     pub fn record(&self, file: File, record: u8) -> Option<&[u8]> {
         let config = self.config();

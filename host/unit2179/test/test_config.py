@@ -35,8 +35,14 @@ class Library(LiveTest):
             many, told, config = self.read(sample.read())
         self.assertEqual((many, told), (0, []))
         chars = bytes.fromhex(config)
-        self.assertEqual((len(chars), chars[:4]), (836, b'\xD2\4\x40\0'))
+        self.assertEqual((len(chars), chars[:4]), (868, b'\xD2\4\x40\0'))
         self.assertEqual([n for n in range(256) if chars[4 + n]], [0, 1, 0x30, 0x31, *range(0x40, 0x44), *range(0x80, 0x88)])
+
+    def test_a_file_that_does_not_say_keeps_the_oldest_with_a_notice(self):
+        many, told, config = self.read(b'unit 5\nfile 0 1\nfile 1 1 newest\nfile 2 1 oldest\nfile 3 1 # newest')
+        self.assertEqual((many, bytes.fromhex(config)[-32:]), (0, bytes([1, 0, 1, 1]) + bytes(28)))
+        self.assertEqual([line.split()[:3] for line in told], [['2', 'file', '0'], ['5', 'file', '3']])
+        self.assertIn('neither oldest nor newest', told[0])
 
     def test_or_its_faults_with_their_lines(self):
         many, told, config = self.read(b'unit 5\n\ninputs 20h\npoints\nfile 0 0\nblock 600\nunit 6\nunit x')
@@ -47,6 +53,6 @@ class Library(LiveTest):
 
     def test_any_text_is_taken(self):
         chance = random.Random(2179)
-        words = [b'unit', b'inputs', b'file', b'block', b' ', b'\n', b'\0', b'#', b'-', b'FFh', b'9' * 40, b'\xFF', b'30h-40h']
+        words = [b'unit', b'inputs', b'file', b'block', b'oldest', b'newest', b' ', b'\n', b'\0', b'#', b'-', b'FFh', b'9' * 40, b'\xFF', b'30h-40h']
         for _ in range(30):
             self.read(b''.join(chance.choice(words) for _ in range(400)))

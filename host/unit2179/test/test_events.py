@@ -45,9 +45,10 @@ class Events(LiveTest):
 
     def test_a_full_file_is_said(self):
         unit, wire = self.begin()
-        self.assertEqual(self.told(unit, *['record 7 1 1'] * 33)(33), [0] * 32 + [1])
+        self.assertEqual(self.told(unit, *['record 2 1 1 2 3'] * 33)(33), [0] * 32 + [1])
         until(lambda: '33: the file is full' in unit.errors())
-        self.assertEqual(wire.ask(frame(A, UNIT, 0x04, 0x67)).status & 8, 8)
+        self.assertEqual(unit.log('D'), [])
+        self.assertEqual(wire.ask(frame(A, UNIT, 0x04, 0x62)).status & 8, 8)
 
     def test_no_part_of_a_millisecond_is_lost(self):
         unit, _ = self.begin()

@@ -1,4 +1,4 @@
-"""State files and journals of versions 2 and 3, in which each history file had 32 slots of 38 characters, equipped or not."""
+"""State files and journals of versions 2 to 4: no file was marked and none dropped a record, and before 4 each had 32 slots of 38 characters."""
 import os
 import signal
 
@@ -7,8 +7,19 @@ from test_state import CHECK, KeptTest, fnv, image_of, parts_of
 
 SLOT, ROOM, RECORDS, HEAD, JOURNAL = 38, 32, 38912, 18, 131072
 FILES = {0: 16, 1: 1, 7: 3, 8: 1, 31: 2}  # a file's number, and how many values its records have
+NEWEST = (0, 7)  # files that the configuration now lets keep the newest
 PACKED = sum(ROOM * (6 + 2 * values) for values in FILES.values())
 MANY = {0: 32, 1: 32, 7: 0, 8: 5, 31: 31}  # how many records each holds
+LAYOUTS = {3: (b'\1\0', RECORDS), 4: (b'\2\0', PACKED)}  # of a version, with how many characters of records it has
+
+
+def size(file):
+    return 6 + 2 * FILES[file]
+
+
+def place(version, file, number):
+    """Where a record lies in a file of some version."""
+    return (file * ROOM + number) * SLOT if version < 4 else ROOM * sum(size(f) for f in FILES if f < file) + number * size(file)
 
 
 def record(file, number):
@@ -25,22 +36,27 @@ def entry(history, number, changes):
 
 
 class Older(KeptTest):
+    version = 3
+    wanted = {file: [record(file, i) for i in range(many)] for file, many in MANY.items()}
+
     def setUp(self):
         super().setUp()
-        self.config = self.write('conf', f'unit {UNIT}\ninputs 30h\n' + ''.join(f'file {f} {values}\n' for f, values in FILES.items()))
+        lines = (f'file {f} {values} {"newest" if f in NEWEST else "oldest"}\n' for f, values in FILES.items())
+        self.config = self.write('conf', f'unit {UNIT}\ninputs 30h\n' + ''.join(lines))
 
     def older(self, **other):
-        """The parts of a file of version 3 of this configuration, with records in it; some of them are others."""
+        """The parts of a file of that version of this configuration, with records in it; some of them are others."""
         unit, _ = self.begin('--fresh')
         unit.end()
-        area, counts = bytearray(b'\xEE' * RECORDS), bytearray(32)
+        layout, many = LAYOUTS[self.version]
+        area, counts = bytearray(b'\xEE' * many), bytearray(32)
         for file, many in MANY.items():
             counts[file] = many
             for i in range(many):
-                at = (file * ROOM + i) * SLOT
-                area[at:at + len(record(file, i))] = record(file, i)
-        made = {**dict(parts_of(self.state())), 'layout': b'\1\0', 'records': bytes(area), 'counts': bytes(counts), **other}
-        return list(made.items())
+                at = place(self.version, file, i)
+                area[at:at + size(file)] = record(file, i)
+        made = {**dict(parts_of(self.state())), 'layout': layout, 'records': bytes(area), 'counts': bytes(counts), **other}
+        return [(name, chars) for name, chars in made.items() if name not in ('config.oldest', 'dropped')]
 
     def put_journals(self, chars):
         for name, held in (('a', chars), ('b', b'')):
@@ -52,8 +68,7 @@ class Older(KeptTest):
         found, more = [], True
         while more:
             data = wire.ask(frame(A, UNIT, 0x04, 0x60 + file)).data
-            size = 6 + 2 * FILES[file]
-            found += [data[at:at + size] for at in range(1, len(data), size)]
+            found += [data[at:at + size(file)] for at in range(1, len(data), size(file))]
             more = data[0] & 0x80
         return found
 
@@ -68,44 +83,42 @@ class Older(KeptTest):
     def kept_as_now(self):
         parts = dict(parts_of(self.state()))
         self.assertTrue(image_of(parts.items()) == self.state())
-        self.assertEqual((parts['layout'], len(parts['records'])), (b'\2\0', PACKED))
+        self.assertEqual((parts['layout'], len(parts['records']), parts['dropped']), (b'\3\0', PACKED, bytes(64)))
+        self.assertEqual([f for f in FILES if not parts['config.oldest'][f]], list(NEWEST))
 
 
-class Repacked(Older):
-    wanted = {file: [record(file, i) for i in range(many)] for file, many in MANY.items()}
-
+class Brought(Older):
     def test_every_record_comes_out_in_order(self):
-        self.put_state(image_of(self.older(), 3))
-        self.assertEqual(self.all_held(), self.wanted)
-        self.kept_as_now()
-
-    def test_a_file_of_version_2_is_read(self):
-        parts = [part for part in self.older() if not part[0].startswith('journal.')]
-        for name in [name for name in os.listdir(self.folder) if name.startswith('state.')]:
-            os.remove(self.path(name))
-        self.put_state(image_of(parts, 2))
+        self.put_state(image_of(self.older(), self.version))
         self.assertEqual(self.all_held(), self.wanted)
         self.kept_as_now()
 
     def test_a_new_record_finds_its_place_behind_them(self):
-        self.put_state(image_of(self.older(), 3))
+        self.put_state(image_of(self.older(), self.version))
         unit, wire = self.begin()
-        self.tell('events', 'record 8 9 1', 'record 7 9 1 2 3', 'record 1 9 1')
-        until(lambda: len(unit.log('E')) == 3)
+        self.tell('events', 'record 8 9 1', 'record 7 9 1 2 3', 'record 1 9 1', 'record 0 9' + ' 5' * 16)
+        until(lambda: len(unit.log('E')) == 4)
         unit.end(signal.SIGKILL)
         found = self.all_held()
-        self.assertEqual([len(found[f]) for f in FILES], [32, 32, 1, 6, 31], 'the file that was full takes none')
-        self.assertEqual((found[7][0][6:], found[8][:5]), (b'\1\0\2\0\3\0', self.wanted[8]))
+        self.assertEqual([len(found[f]) for f in FILES], [32, 32, 1, 6, 31])
+        self.assertEqual((found[7][0][6:], found[8][:5], found[1]), (b'\1\0\2\0\3\0', self.wanted[8], self.wanted[1]))
+        self.assertEqual((found[0][:31], found[0][31][6:]), (self.wanted[0][1:], 16 * b'\5\0'), 'the full file that now keeps the newest')
+        self.assertEqual(unit.log('D'), [['D', '0', '1']])
+
+    def test_what_files_keep_from_now_on_is_told(self):
+        self.put_state(image_of(self.older(), self.version))
+        told = [line for line in self.begin()[0].errors().splitlines() if 'from now on' in line]
+        self.assertEqual(told, [f'state: file {file} keeps the newest from now on' for file in NEWEST])
 
     def test_entries_behind_it_name_places_as_they_were(self):
         parts = self.older()
         names = [name for name, _ in parts]
         history, last = dict(parts)['journal.history'], int.from_bytes(dict(parts)['journal.entry'], 'little')
         counts = names.index('counts')
-        changes = [(names.index('records'), (8 * ROOM + 5) * SLOT, record(8, 5)), (counts, 8, b'\6')]
-        more = [(names.index('records'), (7 * ROOM + n) * SLOT, record(7, n)) for n in range(2)] + [(counts, 7, b'\2')]
+        changes = [(names.index('records'), place(self.version, 8, 5), record(8, 5)), (counts, 8, b'\6')]
+        more = [(names.index('records'), place(self.version, 7, n), record(7, n)) for n in range(2)] + [(counts, 7, b'\2')]
         journal = entry(history, last + 1, changes) + entry(history, last + 2, more)
-        self.put_state(image_of(parts, 3))
+        self.put_state(image_of(parts, self.version))
         self.put_journals(journal)
         wanted = {**self.wanted, 8: [record(8, i) for i in range(6)], 7: [record(7, 0), record(7, 1)]}
         unit, _ = self.begin()
@@ -118,21 +131,38 @@ class Repacked(Older):
         parts = self.older()
         history, last = dict(parts)['journal.history'], int.from_bytes(dict(parts)['journal.entry'], 'little')
         self.put_journals(entry(history, last + 1, [([name for name, _ in parts].index('config.values'), 0, b'\1')]))
-        self.refused_for(image_of(parts, 3), 'a change that no unit has')
-
-
-class Refused(Older):
-    def test_it_is_never_misread(self):
-        good = self.older()
-        self.refused_for(image_of(good, 4), 'the layout 1')
-        self.refused_for(image_of(self.older(layout=b'\2\0'), 3), 'the layout 2')
-        self.refused_for(image_of(self.older(records=bytes(PACKED)), 3), "'records' has not 38912 ")
-        self.refused_for(image_of(self.older(layout=b'\2\0'), 4), f"'records' has not {PACKED} ")
-        self.config = SAMPLE
-        self.refused_for(image_of(good, 3), 'another configuration')
+        self.refused_for(image_of(parts, self.version), 'a change that no unit has')
 
     def test_counts_that_no_unit_has_are_refused(self):
         for file, many in ((0, 33), (1, 255), (2, 1)):
             counts = bytearray(32)
             counts[file] = many
-            self.refused_for(image_of(self.older(counts=bytes(counts)), 3), 'no unit keeps')
+            self.refused_for(image_of(self.older(counts=bytes(counts)), self.version), 'no unit keeps')
+
+
+class BroughtUnmarked(Brought):
+    version = 4
+
+
+class Before(Older):
+    def test_a_file_of_version_2_is_read(self):
+        parts = [part for part in self.older() if not part[0].startswith('journal.')]
+        for name in [name for name in os.listdir(self.folder) if name.startswith('state.')]:
+            os.remove(self.path(name))
+        self.put_state(image_of(parts, 2))
+        self.assertEqual(self.all_held(), self.wanted)
+        self.kept_as_now()
+
+
+class Refused(Older):
+    def test_it_is_never_misread(self):
+        good = self.older()
+        for version in (4, 5):
+            self.refused_for(image_of(good, version), 'the layout 1')
+        self.refused_for(image_of(self.older(layout=b'\2\0'), 3), 'the layout 2')
+        self.refused_for(image_of(self.older(records=bytes(PACKED)), 3), "'records' has not 38912 ")
+        self.refused_for(image_of(self.older(layout=b'\2\0'), 4), f"'records' has not {PACKED} ")
+        for version, layout in ((5, 2), (4, 3), (3, 3)):
+            self.refused_for(image_of(self.older(layout=bytes([layout, 0])), version), f'the layout {layout}')
+        self.config = SAMPLE
+        self.refused_for(image_of(good, 3), 'another configuration')

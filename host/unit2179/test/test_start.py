@@ -21,7 +21,7 @@ class Start(LiveTest):
 
     def test_its_version_is_told(self):
         done = subprocess.run([*RUN, '--version'], capture_output=True, text=True, timeout=10)
-        self.assertEqual((done.returncode, done.stdout), (0, 'unit2179: interface 4 of the library, units of layout 2, state files of version 4\n'))
+        self.assertEqual((done.returncode, done.stdout), (0, 'unit2179: interface 5 of the library, units of layout 3, state files of version 5\n'))
 
     def test_without_options_the_bench_unit_answers_on_a_pseudo_terminal(self):
         process = subprocess.Popen(RUN, cwd=self.folder, stdin=subprocess.DEVNULL, stdout=subprocess.PIPE, text=True)
@@ -64,8 +64,9 @@ class Configuration(LiveTest):
         return [line.partition('conf:')[2] for line in said.splitlines()]
 
     def test_every_wrong_line_is_named(self):
-        wrong = ['unit 7FFh', 'inputs 20h', 'inputs 70h-71h', 'inputs', 'inputs 3Gh', 'inputs 100h', 'inputs 41h-40h', 'calculations 80h',
-                 'file 32 1', 'file 0 0', 'file 0 17', 'file 0', 'block 513', 'outputs -', 'points 30h', 'inputs ' + '30h ' * 64]
+        wrong = ['unit 7FFh', 'inputs 20h', 'inputs 70h-71h', 'inputs', 'inputs 3Gh', 'inputs 100h', 'inputs 41h-40h', 'calculations 80h', 'file 32 1',
+                 'file 0 0', 'file 0 17', 'file 0', 'file 0 oldest', 'file 0 1 both', 'file 0 1 oldest newest', 'block 513', 'outputs -', 'points 30h',
+                 'inputs ' + '30h ' * 64]
         for line in wrong:
             with self.subTest(line):
                 said = self.complaints(f'# a comment\n\nunit 5\n  inputs 30h # another\n{line}\n'.replace('unit 5', '' if 'unit' in line else 'unit 5'))
@@ -74,6 +75,11 @@ class Configuration(LiveTest):
     def test_all_of_them_at_once(self):
         said = self.complaints('unit x\ninputs 30h\nfile 1 1\nfile 1 2\nunit 6\nblock 1\nblock 2\nbad\n')
         self.assertEqual([s.partition(':')[0] for s in said], ['1', '4', '5', '7', '8'])
+
+    def test_a_line_that_leaves_something_unsaid_is_named(self):
+        unit = self.unit('--config', self.write('conf', 'unit 5\nfile 1 1\nfile 2 1 newest\n'))
+        [said] = unit.errors().splitlines()
+        self.assertRegex(said, 'conf:2: file 1 .*keeps the oldest')
 
     def test_a_unit_is_needed_and_text(self):
         self.assertEqual(self.complaints('inputs 30h\n'), [' there is no line with the unit\'s number'])

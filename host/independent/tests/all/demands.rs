@@ -1,28 +1,8 @@
 //! The demands over random runs: damage leaves no trace, no record is lost, every input ends.
 
+use crate::dice::Dice;
 use crate::rig::*;
 use independent::{HistoryReply, Select, Write};
-
-/// A small generator of repeatable numbers.
-struct Dice(u64);
-
-impl Dice {
-    fn below(&mut self, limit: usize) -> usize {
-        self.0 = self
-            .0
-            .wrapping_mul(6_364_136_223_846_793_005)
-            .wrapping_add(1_442_695_040_888_963_407);
-        (self.0 >> 33) as usize % limit
-    }
-
-    fn byte(&mut self) -> u8 {
-        self.below(256) as u8
-    }
-
-    fn pick<T: Copy>(&mut self, from: &[T]) -> T {
-        from[self.below(from.len())]
-    }
-}
 
 #[derive(Clone, Debug)]
 enum Event {
@@ -220,6 +200,7 @@ fn odd_state(rig: &mut Rig, dice: &mut Dice) {
         .block_03
         .iter_mut()
         .for_each(|byte| *byte = dice.below(256) as u8);
+    rig.config.oldest = [dice.below(2) == 0; 32];
     rig.config.unit = dice.pick(&[UNIT, UNIT, UNIT, 0x7FF, 0xFFFF]);
     rig.config.parameter_length = dice.pick(&[20, 20, 20, 0, 513]);
 }

@@ -98,6 +98,37 @@ fn cases_10_and_12_a_full_file() {
 }
 
 #[test]
+fn a_full_file_that_keeps_the_newest_spares_what_was_sent() {
+    let file = File(3);
+    let config = Config::new(UNIT).file(file, 4);
+    assert!(config.keeps_oldest(file));
+    let mut unit = Unit::fresh(config.newest(file));
+    assert!(!unit.config().keeps_oldest(file));
+    let store = |unit: &mut Unit, event| unit.store_record(file, event, &[7; 4]);
+    let events = |unit: &Unit| -> Vec<u8> {
+        let of = |record| unit.record(file, record).map(|chars| chars[0]);
+        (0..ROOM as u8).filter_map(of).collect()
+    };
+    for event in 0..32 {
+        assert_eq!(store(&mut unit, event), Stored::Stored);
+    }
+    // record 0 is sent, and stays while 1 is dropped
+    assert_eq!(answered(&mut unit, 1, 0x04, 0x43, &[])[0], 0x81);
+    assert_eq!(store(&mut unit, 32), Stored::Stored);
+    assert_eq!(events(&unit)[..2], [0, 2]);
+    assert_eq!((unit.held(file), unit.dropped(file)), (Some(32), Some(1)));
+    assert_eq!(
+        (unit.dropped(File(31)), unit.dropped(File(32))),
+        (Some(0), None)
+    );
+    // it is released, and the next 31 and a new one are all in the reply: none may go
+    assert_eq!(store(&mut unit, 33), Stored::Stored);
+    assert_eq!(answered(&mut unit, 2, 0x04, 0x63, &[])[0], 32);
+    assert_eq!(store(&mut unit, 34), Stored::FileFull);
+    assert_eq!((events(&unit).len(), unit.dropped(file)), (32, Some(2)));
+}
+
+#[test]
 fn case_11_days() {
     let set = |day| asked(&mut bench(), 1, 0x20, 0x38, &[0x03, day, 0, 0, 0, 0, 0]);
     assert_eq!((set(0x66), set(0x67)), (Outcome::Done, Outcome::NotValid));

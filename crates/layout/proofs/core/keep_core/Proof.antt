@@ -3,6 +3,7 @@ use mathlib.Core.Path.{_≡_}
 use native.Mathlib.Omega.{arith}
 use lib.ListN.{length}
 use Rattle.layout.proofs.KeepLaws.{core-kept}
+use Rattle.layout.proofs.UnitLaws.{unitFigure}
 use borrow.Author.Needs.{needs}
 use Rattle.layout.proofs.core.keep_core.Statement.{statement}
 use Rattle.layout.proofs.core.keep_core.Tie as tie
@@ -31,7 +32,7 @@ keep-broadcast-requires c κs = search needs
 returns : tie.Need-returns
 returns c =
     let s = c .before .before .before .before .before .before .before .before .before .before .before .before .before .before .before .before in
-    let long : length (s .args .unit .now) ≡ 2474 = omega (arith, c .before .before .before .before .before .before .before .before .before .before .before .before .before .before .told-long-arg2 .given) in
+    let long : length (s .args .unit .now) ≡ unitFigure = omega (arith, c .before .before .before .before .before .before .before .before .before .before .before .before .before .before .told-long-arg2 .given) in
     core-kept (s .args .core) long
     (c .before .before .before .before .before .before .before .before .before .before .keep-clock .ensures)
     (c .before .before .before .before .before .before .before .before .keep-hold .ensures)
