@@ -59,3 +59,12 @@ sent v s t k h hs ht b =
 pub joined : (n : ℕ) (s : List ℕ) → checkOf (take n s) ≡ 0 → checkOf (drop n s) ≡ 0 → checkOf s ≡ 0
 joined n s p q =
     ap (λ x. checkOf x) (sym (take-append-drop n s)) ∙ sym (in-turn 0 (take n s) (drop n s)) ∙ ap (λ v. checkFrom v (drop n s)) p ∙ q
+
+-- where the last two characters of s are the check of those before, those of t are not
+pub stretch : (s t : List ℕ) (k : ℕ) → Characters s → Characters t → Burst s t k → 2 ≤ length s
+    → wordAt s (length s - 2) ≡ checkOf (take (length s - 2) s)
+    → wordAt t (length t - 2) ≡ checkOf (take (length t - 2) t)
+    → ⊥
+stretch s t k hs ht b h p q =
+    let l : length s ≡ length t = b .long in
+    frame hs ht b 0 (checkOf-stretch s hs h p) (checkOf-stretch t ht (omega arith) q)

@@ -13,6 +13,11 @@ pub by-cond {ℓ κ} : {A : Type ℓ} (P : A → Type κ) (b : Bool) {x y : A} �
 by-cond P true f g = f refl
 by-cond P false f g = g refl
 
+-- a choice that is passed was passed by the case it took
+pub cond-cases : {X : Type 0} (b x y : Bool) → cond b x y ≡ true → (b ≡ true → x ≡ true → X) → (b ≡ false → y ≡ true → X) → X
+cond-cases true x y e f g = f refl e
+cond-cases false x y e f g = g refl e
+
 pub by-bool : {X : Type 0} (b : Bool) → (b ≡ true → X) → (b ≡ false → X) → X
 by-bool true f g = f refl
 by-bool false f g = g refl
@@ -41,6 +46,10 @@ and-right false b e = false-true e
 pub or-left : (a b : Bool) → (a || b) ≡ false → a ≡ false
 or-left true b e = e
 or-left false b e = refl
+
+pub or-right : (a b : Bool) → b ≡ true → (a || b) ≡ true
+or-right true b e = refl
+or-right false b e = e
 
 pub or-cases : {X : Type 0} (a b : Bool) → (a || b) ≡ true → (a ≡ true → X) → (b ≡ true → X) → X
 or-cases true b e f g = f refl

@@ -98,11 +98,11 @@ length-before q = omega arith
 
 -- a list with its check characters behind it is two longer, and those are its check
 module _ (s : List ℕ) where
-  checked-long : length (withCheck s) ≡ length s + 2
+  pub checked-long : length (withCheck s) ≡ length s + 2
   unfolding withCheck
   checked-long = rw (length-append, length-word)
 
-  checked-right : wordAt (withCheck s) (length (withCheck s) - 2) ≡ checkOf (take (length (withCheck s) - 2) (withCheck s))
+  pub checked-right : wordAt (withCheck s) (length (withCheck s) - 2) ≡ checkOf (take (length (withCheck s) - 2) (withCheck s))
   checked-right =
       let e : length (withCheck s) - 2 ≡ length s = omega (arith, checked-long) in
       rw e

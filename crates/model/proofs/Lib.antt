@@ -33,3 +33,17 @@ pub mod SetTime
 pub mod Lag
 pub mod Broadcasts
 pub mod Nibbles
+pub mod Asking
+pub mod Heeding
+pub mod Keeping
+pub mod ReplyLaws
+pub mod Telling
+pub mod TellsScans
+pub mod TellsValues
+pub mod TellsOrders
+pub mod TellsReturn
+pub mod Stamps
+pub mod TellsHistory
+pub mod RecordsTold
+pub mod ReadBack
+pub mod PollWorked

@@ -184,11 +184,11 @@ unfoldable pub FilesFit : Config → Files → Type 0
 FilesFit c fs = (f : ℕ) → f < 32 → fileFits c fs f ≡ true
 
 module _ (c : Config) where
-  history-files : (h : History) → historyFits c h ≡ true → FilesFit c (h .files)
+  pub history-files : (h : History) → historyFits c h ≡ true → FilesFit c (h .files)
   unfolding historyFits FilesFit
   history-files h e f k = every-upFrom (fileFits c (h .files)) 0 32 (and-left (every (fileFits c (h .files)) (upFrom 0 32)) _ e) f (omega arith) (omega arith)
 
-  history-memory : (h : History) → historyFits c h ≡ true → memoryFits c (h .files) (h .memory) ≡ true
+  pub history-memory : (h : History) → historyFits c h ≡ true → memoryFits c (h .files) (h .memory) ≡ true
   unfolding historyFits
   history-memory h e = and-right (every (fileFits c (h .files)) (upFrom 0 32)) _ e
 

@@ -118,7 +118,7 @@ file-quantity values f d n = by-cond (λ k. min n k < 128) d (λ e. omega (arith
         div-lt-iff-lt-mul k .1 h
 
 -- the records of the latest reply, if it went to this master, stood before what is held then
-released-for : (w : Memory) (fs : Files) (m : Master) (f : ℕ) (zs : List ℕ) (ps : List (List ℕ)) (g : ℕ)
+pub released-for : (w : Memory) (fs : Files) (m : Master) (f : ℕ) (zs : List ℕ) (ps : List (List ℕ)) (g : ℕ)
     → heldIn fs g ≡ releasedBy (rememberedAs w fs) (told m f true zs ps) g ++ heldIn (applied (freedFor w m) fs) g
 unfolding freedFor applied releasedBy
 released-for Nothing fs m f zs ps g = refl
@@ -135,7 +135,7 @@ freed-drops Nothing m ns = refl
 freed-drops (Remembered t) m ns = by-cond (λ ch. droppedAfter ch ns ≡ ns) (isOf (t .master) m) (λ e. refl) (λ e. refl)
 
 -- what is left is sized as before
-sized-for : {n : ℕ} (w : Memory) (fs : Files) (m : Master) (g : ℕ) → AllSized n (heldIn fs g) → AllSized n (heldIn (applied (freedFor w m) fs) g)
+pub sized-for : {n : ℕ} (w : Memory) (fs : Files) (m : Master) (g : ℕ) → AllSized n (heldIn fs g) → AllSized n (heldIn (applied (freedFor w m) fs) g)
 sized-for w fs m g h = sized-rest (releasedBy (rememberedAs w fs) (told m 0 true [] []) g) (rw (released-for w fs m 0 [] [] g) at h)
 
 -- ---- a frame for this unit

@@ -10,6 +10,7 @@ use Rattle.model.specs.Limits.{mostLag}
 use Rattle.model.specs.Frame.{Request}
 use Rattle.model.specs.Scan.{counts, withNoData, tells, refuses}
 use Rattle.model.specs.Clock.{bcd, fromBcd, digits, clockFits, timeIn, digitsFit, timeFits, clockAfter, setTimeOf, timeChars, readTimeOf}
+use Rattle.model.specs.Ask.{goodTime}
 use Rattle.model.specs.declared.Outcome.the-variants.{NotValid}
 use Rattle.model.specs.declared.Clock.{Clock}
 use Rattle.model.proofs.Conditions.{and-both}
@@ -55,6 +56,11 @@ module _ (t : Clock) (h : clockFits t ≡ true) where
   told-fits : timeFits (sevenOf t) ≡ true
   unfolding timeFits
   told-fits = and-both told-digits (rw told-back h)
+
+  -- and so they tell a time that is one
+  pub good-time : goodTime (timeChars t) ≡ true
+  unfolding goodTime timeChars
+  good-time = told-fits
 
   -- they are taken with every lag up to the most, and the clock is that time moved by it, whatever it was (Request 2.3)
   pub set-time : (lag : ℕ) → lag ≤ mostLag → (k : Clock) (q : Request) → q .body ≡ sevenOf t

@@ -47,18 +47,18 @@ chunks-flat n t (one {r = r} {rs = rs} e h) =
     (ap₂ (λ (x : List ℕ) (y : List (List ℕ)). x ∷ y) (take-at r (flat rs ++ t) n e)
     (ap (chunks (length rs) n) (drop-at r (flat rs ++ t) n e) ∙ chunks-flat n t h))
 
-quantity-back : (n : ℕ) (b : Bool) → n < 128 → (n + cond b 128 0) % 128 ≡ n
+pub quantity-back : (n : ℕ) (b : Bool) → n < 128 → (n + cond b 128 0) % 128 ≡ n
 quantity-back n true h = omega arith
 quantity-back n false h = omega arith
 
-records-back : (size n : ℕ) (b : Bool) (rs : List (List ℕ)) (s : List ℕ) → n < 128 → n ≤ length rs → AllSized size rs
+pub records-back : (size n : ℕ) (b : Bool) (rs : List (List ℕ)) (s : List ℕ) → n < 128 → n ≤ length rs → AllSized size rs
     → chunks ((n + cond b 128 0) % 128) size (flat (take n rs) ++ s) ≡ take n rs
 records-back size n b rs s few most sized =
     ap (λ (k : ℕ). chunks k size (flat (take n rs) ++ s)) (quantity-back n b few ∙ sym (length-take-le n rs most))
     ∙ chunks-flat size s (sized-front n sized)
 
 -- the data of a reply are what it was made of
-data-back : (r : Reply) (ys : List ℕ) → dataOf (replyChars r ys) ≡ ys
+pub data-back : (r : Reply) (ys : List ℕ) → dataOf (replyChars r ys) ≡ ys
 unfolding dataOf part replyChars withCheck headChars word
 data-back r ys =
     let w = word (checkOf (headChars r ++ ys)) in

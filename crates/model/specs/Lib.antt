@@ -26,4 +26,9 @@ pub mod Refusal
 pub mod Lag
 pub mod Line
 pub mod Damage
+pub mod Ask
+pub mod Believe
+pub mod Poll
+pub mod Turns
+pub mod Understood
 pub mod Demand3

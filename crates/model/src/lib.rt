@@ -135,6 +135,18 @@ pub enum Sending {
     Unanswered,
 }
 
+// How a master read a reply: normal, refused for one of five reasons in the order judged, NOP or RST.
+pub enum Read {
+    Normal,
+    NotWhole,
+    CheckWrong,
+    OtherAddress,
+    OtherFunction,
+    NoSuchData,
+    Nop,
+    Rst,
+}
+
 // How storing a record ended; one that was swapped is kept, and an older record of its file was dropped for it.
 pub enum Stored {
     Kept,
