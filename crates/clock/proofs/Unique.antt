@@ -5,6 +5,7 @@ use Rattle.model.proofs.Unique.{one-fill}
 use Rattle.clock.proofs.to_bcd.Reads as to-bcd
 use Rattle.clock.proofs.from_bcd.Reads as from-bcd
 use Rattle.clock.proofs.clock_fits.Reads as clock-fits
+use Rattle.clock.proofs.good_time.Reads as good-time
 use Rattle.clock.proofs.set_time.Reads as set-time
 use Rattle.clock.proofs.read_time.Reads as read-time
 use Rattle.clock.proofs.clock_after.Reads as clock-after
@@ -17,6 +18,9 @@ one-from-bcd κ a x y s t p q = p ∙ sym q
 
 pub one-clock-fits : One clock-fits.Post (λ κ r s. r)
 one-clock-fits κ a x y s t p q = p ∙ sym q
+
+pub one-good-time : One good-time.Post (λ κ r s. r)
+one-good-time κ a x y s t p q = p ∙ sym q
 
 pub one-set-time : One set-time.Post (λ κ r s. r)
 one-set-time κ a x y s t p q = p ∙ sym q

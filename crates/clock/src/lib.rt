@@ -13,6 +13,7 @@ ghost use Rattle.model.specs.Limits.{replyHead};
 ghost use Rattle.model.specs.Frame.{asked};
 ghost use Rattle.model.specs.Scan.{Fills};
 ghost use Rattle.model.specs.Clock.{bcd, fromBcd, digits, clockFits, timeIn, digitsFit, timeOf, clockAt, clockAfter, setTimeOf, timeChars};
+ghost use Rattle.model.specs.Ask.{goodTime};
 ghost use Rattle.clock.specs.Times.{setOf, timeReadOf};
 
 // In milliseconds. Every year has 366 days.
@@ -113,6 +114,16 @@ fn time_in(body: &[u8]) -> Clock
         second: from_bcd(body[4]),
         ms: chars::wide(body[5]) as u16 * 256 + chars::wide(body[6]) as u16,
     }
+}
+
+// Seven characters that tell a time which is one: what a master may send, or believe.
+pub fn good_time(chars: &[u8]) -> bool
+    ensures { λ r. ⌜ r ≡ goodTime (now (chars .entry)) ⌝ }
+{
+    if chars.len() != 7 {
+        return false;
+    }
+    digits_fit(chars) & clock_fits(time_in(chars))
 }
 
 // The clock takes the time sent, moved by the lag since, or stays.

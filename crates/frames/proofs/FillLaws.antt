@@ -37,6 +37,14 @@ length-head : (r : Reply) → length (headChars r) ≡ 7
 unfolding headChars word
 length-head r = refl
 
+-- the check of a front, written behind it, makes the front with its check
+pub check-put : (entry front : List ℕ) (end : ℕ) → length front ≡ end → end + 2 ≤ length entry
+    → (us bs : List ℕ) → us ≡ put entry 0 front → bs ≡ put us end (word (checkOf (take end us))) → bs ≡ put entry 0 (withCheck front)
+unfolding withCheck
+check-put entry front end l h us bs a b =
+    let read : take end us ≡ front = rw (a, ← l) (take-put-front entry front (omega arith)) in
+    put-then entry us bs 0 end front (word (checkOf front)) a (omega arith) (rw read at b)
+
 module _ (entry : List ℕ) (r : Reply) where
   -- ---- where the buffer cannot hold the reply
 
@@ -59,11 +67,12 @@ module _ (entry : List ℕ) (r : Reply) where
     unfolding framedIn
     framed-is = rw (le-leb (7 + r .count + 2) (length entry) h)
 
-    framed-some : framedIn entry r ≡ front ++ word (checkOf front)
-    unfolding replyChars withCheck front
+    framed-some : framedIn entry r ≡ withCheck front
+    unfolding replyChars front
     framed-some = framed-is
 
     pub framed-long : length (framedIn entry r) ≡ 7 + r .count + 2
+    unfolding withCheck
     framed-long = rw (framed-some, length-append, length-word) (omega (arith, length-front))
 
     module _ (us : List ℕ) (a : us ≡ put entry 0 (headChars r)) where
@@ -73,11 +82,6 @@ module _ (entry : List ℕ) (r : Reply) where
           a ∙ ap (λ (l : List ℕ). put l 0 (headChars r)) (sym (put-own entry 7 (r .count)))
           ∙ put-under entry 0 (headChars r) (part entry 7 (r .count)) 7 (omega (arith, length-head r))
 
-      front-read : take (7 + r .count) us ≡ front
-      front-read = rw (head-front, ← length-front) (take-put-front entry front (omega (arith, length-front)))
-
-      -- the check v of the front, written behind it, makes the reply
-      pub framed-put : (v : ℕ) (bs : List ℕ) → v ≡ checkOf (take (7 + r .count) us) → bs ≡ put us (7 + r .count) (word v) → bs ≡ put entry 0 (framedIn entry r)
-      framed-put v bs e b =
-          rw framed-some
-          (put-then entry us bs 0 (7 + r .count) front (word (checkOf front)) head-front (omega (arith, length-front)) (rw (e, front-read) at b))
+      -- the check of the front, written behind it, makes the reply
+      pub framed-put : (bs : List ℕ) → bs ≡ put us (7 + r .count) (word (checkOf (take (7 + r .count) us))) → bs ≡ put entry 0 (framedIn entry r)
+      framed-put bs b = rw framed-some (check-put entry front (7 + r .count) length-front (omega arith) us bs head-front b)

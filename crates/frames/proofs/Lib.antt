@@ -2,4 +2,5 @@
 pub mod DataLaws
 pub mod HearLaws
 pub mod FillLaws
+pub mod LayLaws
 pub mod Unique

@@ -7,6 +7,7 @@ use Rattle.frames.proofs.address_of.Reads as address-of
 use Rattle.frames.proofs.hear.Reads as hear
 use Rattle.frames.proofs.data_of.Reads as data-of
 use Rattle.frames.proofs.fill.Reads as fill
+use Rattle.frames.proofs.lay.Reads as lay
 use Rattle.frames.proofs.outcomes.number.Reads as number
 use Rattle.frames.proofs.outcomes.sending.Reads as sending
 use Rattle.frames.proofs.outcomes.is_answered.Reads as is-answered
@@ -33,6 +34,12 @@ one-fill κ a x y s t p q = p .0 ∙ sym (q .0)
 
 pub one-fill-buffer : One fill.Post (λ κ r s. s .0 .now)
 one-fill-buffer κ a x y s t p q = p .1 ∙ sym (q .1)
+
+pub one-lay : One lay.Post (λ κ r s. r)
+one-lay κ a x y s t p q = p .0 ∙ sym (q .0)
+
+pub one-lay-buffer : One lay.Post (λ κ r s. s .0 .now)
+one-lay-buffer κ a x y s t p q = p .1 ∙ sym (q .1)
 
 pub one-number : One number.Post (λ κ r s. r)
 one-number κ a x y s t p q = p ∙ sym q

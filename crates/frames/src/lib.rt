@@ -1,4 +1,5 @@
-// Frames: a stretch read as a master's frame or as a pair, and a reply written round its data in a lent buffer.
+// Frames: a stretch read as a master's frame or as a pair, a reply written round its data in a lent buffer, and a master's frame written there.
+use chars::copy;
 use chars::put_char;
 use chars::put_word;
 use chars::word_at;
@@ -9,11 +10,13 @@ use model::Master;
 use model::Reply;
 ghost use mathlib.Core.Path.{_≡_};
 ghost use mathlib.Core.Bool.{true};
-ghost use Prim.Native.Nat.{_-_, _≤_};
-ghost use lib.ListN.{length};
+ghost use Prim.Native.Nat.{_+_, _-_, _≤_};
+ghost use lib.ListN.{length, take};
 ghost use Rattle.chars.specs.Put.{put, part};
-ghost use Rattle.model.specs.Frame.{unitOf, masterOf, addressOf, whole, checked, frameIn, commands, paired, heardOf, headChars};
-ghost use Rattle.frames.specs.Framed.{framedIn};
+ghost use Rattle.chars.specs.Word.{word};
+ghost use Rattle.checkword.specs.Check.{checkOf};
+ghost use Rattle.model.specs.Frame.{unitOf, masterOf, addressOf, asked, whole, checked, frameIn, commands, paired, heardOf, headChars};
+ghost use Rattle.frames.specs.Framed.{askedHead, framedIn, laidIn};
 
 pub mod outcomes;
 
@@ -150,6 +153,15 @@ fn put_head(buffer: &mut [u8], head: Reply)
     put_word(buffer, 5, head.count);
 }
 
+// The check of what stands before an index goes there.
+fn put_check(buffer: &mut [u8], end: usize)
+    requires { ⌜ end + 2 ≤ length (now buffer) ⌝ }
+    ensures { λ _. ⌜ now (buffer .exit) ≡ put (now (buffer .entry)) end (word (checkOf (take end (now (buffer .entry))))) ⌝ }
+{
+    let check = check_word(0, &buffer[..end]);
+    put_word(buffer, end, check);
+}
+
 // Head and check characters go round data that stand in the buffer already. How many characters the reply has;
 // 0, and nothing written, where the buffer cannot hold them.
 pub fn fill(buffer: &mut [u8], head: Reply) -> usize
@@ -160,7 +172,37 @@ pub fn fill(buffer: &mut [u8], head: Reply) -> usize
         return 0;
     }
     put_head(buffer, head);
-    let check = check_word(0, &buffer[..end]);
-    put_word(buffer, end, check);
+    put_check(buffer, end);
+    end + 2
+}
+
+// The six characters before a request's data.
+fn put_asked(buffer: &mut [u8], frame: Frame, count: u16)
+    requires { ⌜ 6 ≤ length (now buffer) ⌝ }
+    ensures { λ _. ⌜ now (buffer .exit) ≡ put (now (buffer .entry)) 0 (askedHead frame count) ⌝ }
+{
+    put_word(buffer, 0, frame.address);
+    put_char(buffer, 2, frame.function);
+    put_char(buffer, 3, frame.command);
+    put_word(buffer, 4, count);
+}
+
+// A request as a master sends it goes into the front of the buffer: as many data as there are, whatever the head counts. How many characters
+// it has; 0, and nothing written, where a frame has not so many data or the buffer cannot hold them.
+pub fn lay(buffer: &mut [u8], frame: Frame, body: &[u8]) -> usize
+    ensures { λ r. ⌜ (r ≡ length (laidIn (length (now (buffer .entry))) (asked frame (now (body .entry)))))
+        × (now (buffer .exit) ≡ put (now (buffer .entry)) 0 (laidIn (length (now (buffer .entry))) (asked frame (now (body .entry))))) ⌝ }
+{
+    let n = body.len();
+    if n > Frame::LONGEST - Frame::SHORTEST {
+        return 0;
+    }
+    let end = DATA + n;
+    if buffer.len() < end + 2 {
+        return 0;
+    }
+    put_asked(buffer, frame, n as u16);
+    copy(body, 0, n, buffer, DATA);
+    put_check(buffer, end);
     end + 2
 }

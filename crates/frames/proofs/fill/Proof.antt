@@ -4,7 +4,6 @@ use mathlib.Core.Path.{sym}
 use Prim.Native.Nat.{_+_, _<_, _≤_}
 use native.Mathlib.Omega.{arith}
 use lib.ListN.{length}
-use lib.Seq.{length-take-le}
 use borrow.Author.Needs.{needs}
 use Rattle.frames.proofs.FillLaws.{untouched, framed-long, framed-put}
 use Rattle.frames.proofs.fill.Statement.{statement}
@@ -20,23 +19,13 @@ add-if1 : tie.Need-add-if1
 add-if1 c = search needs
 
 returns : tie.Need-returns
-returns c =
-    let h : length (c .before .before .before .args .buffer .now) < 7 + c .before .before .before .args .head .count + 2 = omega arith in untouched _ _ h
+returns c = let h : length (c .before .before .before .args .buffer .now) < 7 + c .before .before .before .args .head .count + 2 = omega arith in untouched _ _ h
 
 put-head-requires : tie.Need-put-head-requires
 put-head-requires c κs = search needs
 
-slice-reshare-prefix-check-word : tie.Need-slice-reshare-prefix-check-word
-slice-reshare-prefix-check-word c = search needs
-
-slice-aggregate-check-word : tie.Need-slice-aggregate-check-word
-slice-aggregate-check-word c = sym (length-take-le _ _ (omega arith))
-
-check-word-requires : tie.Need-check-word-requires
-check-word-requires c κs = search needs
-
-put-word-requires : tie.Need-put-word-requires
-put-word-requires c κs = search needs
+put-check-requires : tie.Need-put-check-requires
+put-check-requires c κs = search needs
 
 add-result : tie.Need-add-result
 add-result c = search needs
@@ -46,11 +35,9 @@ same-length c = search needs
 
 returns-2 : tie.Need-returns-2
 returns-2 c =
-    let s = c .before .before .before .before .before .before .before .before .before .before .before .before .before .args in
+    let s = c .before .before .before .before .before .before .before .before .before .before .before .args in
     let h : 7 + s .head .count + 2 ≤ length (s .buffer .now) = omega arith in
-    let head = c .before .before .before .before .before .before .before .before .put-head .ensures in
-    let check = c .before .before .before .before .check-word .ensures in
-    (sym (framed-long _ _ h), framed-put _ _ h _ head _ _ check (c .before .before .put-word .ensures))
+    (sym (framed-long _ _ h), framed-put _ _ h _ (c .before .before .before .before .before .before .put-head .ensures) _ (c .before .before .put-check .ensures))
 
 pub fill-spec : {M : Type 1} → statement M
 fill-spec =
@@ -61,10 +48,7 @@ fill-spec =
     add-if1
     returns
     put-head-requires
-    slice-reshare-prefix-check-word
-    slice-aggregate-check-word
-    check-word-requires
-    put-word-requires
+    put-check-requires
     add-result
     same-length
     returns-2)
