@@ -1,0 +1,3 @@
+pub mod Polled
+pub mod Built
+pub mod Taken
