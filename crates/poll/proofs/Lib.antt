@@ -1,0 +1,2 @@
+-- What the contracts of this crate leave open: nothing.
+pub mod Unique
