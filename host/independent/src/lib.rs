@@ -16,6 +16,7 @@ pub mod control;
 pub mod frame;
 pub mod hex;
 pub mod history;
+pub mod master;
 pub mod outcome;
 pub mod port;
 pub mod scan;

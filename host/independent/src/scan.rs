@@ -6,10 +6,10 @@ use crate::outcome;
 use crate::state::State;
 
 /// The command bits of function 00 that are not reserved.
-const KIND_BITS: u8 = 0x4D;
+pub const KIND_BITS: u8 = 0x4D;
 
 /// The command bit of function 00 that chooses a kind.
-fn kind_bit(kind: InputKind) -> u8 {
+pub fn kind_bit(kind: InputKind) -> u8 {
     match kind {
         InputKind::Simple => 0x01,
         InputKind::TwoBit => 0x04,

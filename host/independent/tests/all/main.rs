@@ -11,6 +11,7 @@ mod dice;
 mod history;
 mod kept;
 mod lag;
+mod master;
 mod newest;
 mod order;
 mod outcomes;
