@@ -46,6 +46,8 @@ struct osturdam_poll {
     uint8_t chars[OSTURDAM_POLL_MEMORY];
 };
 
+/* ---- the calls */
+
 /* A fresh master, by the address word of master and unit. Its first history request acknowledges. */
 void osturdam_poll_begin(uint8_t poll[OSTURDAM_POLL_MEMORY], uint16_t address);
 
@@ -114,6 +116,12 @@ static inline uint64_t osturdam_poll_select(struct osturdam_poll *p, uint8_t out
 static inline uint64_t osturdam_poll_operate(struct osturdam_poll *p, uint8_t frame[OSTURDAM_POLL_FRAME])
 {
     return osturdam_poll_other(p, 0x10, 0x20, 0, 0, frame);
+}
+
+/* 10h/21h: a select is given up, which a unit answers by RST. */
+static inline uint64_t osturdam_poll_cancel(struct osturdam_poll *p, uint8_t frame[OSTURDAM_POLL_FRAME])
+{
+    return osturdam_poll_other(p, 0x10, 0x21, 0, 0, frame);
 }
 
 /* 20h/00: the unit forgets its latest history reply. */

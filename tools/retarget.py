@@ -1,7 +1,8 @@
 #!/usr/bin/env python3
 """Compiles the module of the proved library for another machine, by the toolchain's own compiler.
 
-usage: tools/retarget.py FROM TO TRIPLE [WORDS...]    FROM has libboard.a for x86-64 with its module beside it (tools/board); TO gets another
+usage: tools/retarget.py [--library NAME] FROM TO TRIPLE [WORDS...]    FROM has libNAME.a (libboard.a) for x86-64 with its module beside
+                                                                        it (tools/board); TO gets another
        tools/retarget.py --targets
 
 Of the module's text only this is changed: triple and data layout, which the compiler itself tells of the machine; what was said of x86-64;
@@ -66,10 +67,10 @@ class Toolchain:
 class Module:
     """The module that the library for x86-64 was compiled from, and the words that the toolchain compiled it with."""
 
-    def __init__(self, folder, tools):
-        self.archive, self.path = os.path.join(folder, 'libboard.a'), os.path.join(folder, 'board.bc')
+    def __init__(self, folder, tools, name='board'):
+        self.name, self.archive, self.path = name, os.path.join(folder, f'lib{name}.a'), os.path.join(folder, name + '.bc')
         if not os.path.exists(self.path) or not os.path.exists(self.path[:-2] + 'words'):
-            raise Refused(f'{folder} has no board.bc: its library was not made by tools/board, or the toolchain has another shape than was known')
+            raise Refused(f'{folder} has no {name}.bc: its library was not made by tools/board, or the toolchain has another shape than was known')
         with open(self.path[:-2] + 'words', encoding='utf-8') as f:
             self.words = f.read().splitlines()
         self.tools = tools
@@ -139,7 +140,7 @@ def retargeted(text, triple, layout, small):
 def compiled(tools, module, text, triple, words, to):
     """The library from the module's text."""
     os.makedirs(to, exist_ok=True)
-    source, made, archive = (os.path.join(to, name) for name in ('board.ll', 'board.o', 'libboard.a'))
+    source, made, archive = (os.path.join(to, name) for name in (module.name + '.ll', module.name + '.o', f'lib{module.name}.a'))
     with open(source, 'w', encoding='utf-8') as f:
         f.write(text)
     tools.clang(f'the module for {triple}', f'--target={triple}', *module.carried(), *words, '-c', '-x', 'ir', source, '-o', made)
@@ -154,9 +155,9 @@ def words_for(triple, given):
     return words + ([] if any(g.startswith('-O') for g in given) else ['-Os']) + given
 
 
-def make(source, to, triple, given):
+def make(name, source, to, triple, given):
     tools = Toolchain()
-    module, words = Module(source, tools), words_for(triple, given)
+    module, words = Module(source, tools, name), words_for(triple, given)
     whole, layout = machine(tools, triple, words)
     module.hold()
     text = module.text()
@@ -165,12 +166,15 @@ def make(source, to, triple, given):
 
 
 def main():
-    if sys.argv[1:] == ['--targets']:
+    words, name = sys.argv[1:], 'board'
+    if words[:1] == ['--library']:
+        name, words = ''.join(words[1:2]), words[2:]
+    if words == ['--targets']:
         print('\n'.join(MACHINES))
-    elif len(sys.argv) < 4:
+    elif len(words) < 3:
         sys.exit(__doc__.strip())
     else:
-        make(sys.argv[1], sys.argv[2], sys.argv[3], sys.argv[4:])
+        make(name, *words[:3], words[3:])
 
 
 if __name__ == '__main__':
