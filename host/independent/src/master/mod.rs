@@ -78,8 +78,12 @@ impl Master {
         }
     }
 
-    /// The two address characters of a frame to this unit part.
-    fn address(&self, unit: u16) -> [u8; 2] {
+    /// The two address characters of a request, which its reply echoes.
+    fn address(&self, request: Option<&Request>) -> [u8; 2] {
+        let unit = match request {
+            Some(request) if request.broadcast() => BROADCAST,
+            _ => self.unit,
+        };
         (u16::from(self.master) << 11 | unit).to_le_bytes()
     }
 
@@ -125,12 +129,7 @@ pub fn build(master: &mut Master, wish: &Request, room: usize) -> Option<Vec<u8>
 fn frame(master: &Master, request: &Request, acknowledge: bool) -> Vec<u8> {
     let (function, command, data) = request.parts();
     let mut bytes = Vec::with_capacity(Frame::SHORTEST + data.len());
-    let unit = if request.broadcast() {
-        BROADCAST
-    } else {
-        master.unit
-    };
-    bytes.extend_from_slice(&master.address(unit));
+    bytes.extend_from_slice(&master.address(Some(request)));
     bytes.extend_from_slice(&[function, command | u8::from(acknowledge) << 6]);
     bytes.extend_from_slice(&(data.len() as u16).to_le_bytes());
     bytes.extend_from_slice(&data);

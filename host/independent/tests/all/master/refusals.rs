@@ -150,11 +150,29 @@ fn nop_and_rst_clear_the_retry_mark() {
 fn no_reply_to_a_broadcast_is_believed() {
     for request in broadcasts() {
         for (function, data) in [(0x20, &[][..]), (0x20, &[0x40]), (0x60, &[]), (0xA0, &[])] {
-            let refusal = refused(&asking(&request), &reply(function, data));
+            // The unit polled is not who was spoken to; the address of all units is.
+            let of_unit = reply(function, data);
+            let mut of_all = of_unit[..of_unit.len() - 2].to_vec();
+            of_all[..2].copy_from_slice(&[0xFF, 0x0F]);
+            assert_eq!(refused(&asking(&request), &of_unit), Refusal::Address);
+            let refusal = refused(&asking(&request), &checked(of_all));
             assert_eq!(refusal, Refusal::Data);
         }
-        let bytes = checked(vec![0xFF, 0x0F, 0x20, 0x80, 0x54, 0, 0]);
+        let bytes = checked(vec![0xFF, 0x0F, 0x00, 0x80, 0x54, 0, 0]);
+        assert_eq!(refused(&asking(&request), &bytes), Refusal::Function);
+        let bytes = checked(vec![0xFF, 0x17, 0x20, 0x80, 0x54, 0, 0]);
         assert_eq!(refused(&asking(&request), &bytes), Refusal::Address);
+    }
+}
+
+#[test]
+fn address_judged_by_is_the_units_again_after_a_broadcast() {
+    for request in broadcasts() {
+        let mut master = asking(&request);
+        build(&mut master, &Request::Scan { kinds: 0x41 }, ROOM).expect("a frame");
+        let of_all = checked(vec![0xFF, 0x0F, 0x00, 0x80, 0x54, 0, 0]);
+        assert_eq!(refused(&master, &of_all), Refusal::Address);
+        assert!(read(&mut master, &reply(0x00, &[])).is_ok());
     }
 }
 
