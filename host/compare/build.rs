@@ -1,5 +1,5 @@
-//! Links the static library of the proved unit, which lies in the folder BOARD_LIB, and takes the numbers of the C header over, so that
-//! they stand once.
+//! Links the static libraries of the proved unit and of the proved master, which lie in the folder BOARD_LIB, and takes the numbers of the C
+//! headers over, so that they stand once.
 
 use std::env;
 use std::fmt::Write;
@@ -27,8 +27,8 @@ fn constants<'a>(header: &'a str, of: Option<&str>) -> Vec<(&'a str, usize)> {
     lines.filter_map(constant).collect()
 }
 
-/// The numbers as `usize`, the names of the kept numbers in their order, and the names of a unit's regions by their places.
-fn written(header: &str) -> String {
+/// The numbers as `usize`.
+fn numbers(header: &str) -> String {
     let mut made = String::new();
     for (name, number) in constants(header, None) {
         writeln!(
@@ -37,6 +37,12 @@ fn written(header: &str) -> String {
         )
         .unwrap();
     }
+    made
+}
+
+/// The names of the kept numbers in their order, and the names of a unit's regions by their places.
+fn names(header: &str) -> String {
+    let mut made = String::new();
     let kept = constants(header, Some("enum osturdam_kept {"));
     let names = kept.iter().map(|x| x.0.to_lowercase());
     let names: Vec<String> = names.filter(|name| name != "kept").collect();
@@ -55,20 +61,32 @@ fn written(header: &str) -> String {
     made
 }
 
-fn main() {
-    let root = Path::new(env!("CARGO_MANIFEST_DIR")).join("../..");
-    let header = root.join("include/osturdam.h");
+/// Links both libraries out of the folder that BOARD_LIB names.
+fn link(root: &Path) {
     let folder = env::var("BOARD_LIB").map_or(root.join("target/staticlib"), Into::into);
     println!("cargo:rerun-if-env-changed=BOARD_LIB");
-    println!("cargo:rerun-if-changed={}", header.display());
-    println!(
-        "cargo:rerun-if-changed={}",
-        folder.join("libboard.a").display()
-    );
     println!("cargo:rustc-link-search=native={}", folder.display());
-    println!("cargo:rustc-link-lib=static=board");
+    for library in ["board", "poll"] {
+        let file = folder.join(format!("lib{library}.a"));
+        println!("cargo:rerun-if-changed={}", file.display());
+        println!("cargo:rustc-link-lib=static={library}");
+    }
+}
 
-    let text = fs::read_to_string(&header).expect("include/osturdam.h is read");
-    let place = Path::new(&env::var("OUT_DIR").expect("cargo tells OUT_DIR")).join("header.rs");
-    fs::write(place, written(&text)).expect("header.rs is written");
+/// The text of a C header.
+fn header(root: &Path, name: &str) -> String {
+    let path = root.join("include").join(name);
+    println!("cargo:rerun-if-changed={}", path.display());
+    fs::read_to_string(&path).expect("the header is read")
+}
+
+fn main() {
+    let root = Path::new(env!("CARGO_MANIFEST_DIR")).join("../..");
+    link(&root);
+    let unit = header(&root, "osturdam.h");
+    let master = header(&root, "osturdam_poll.h");
+    let made = env::var("OUT_DIR").expect("cargo tells OUT_DIR");
+    let write = |name, text| fs::write(Path::new(&made).join(name), text).expect("it is written");
+    write("header.rs", numbers(&unit) + &names(&unit));
+    write("poll.rs", numbers(&master));
 }

@@ -103,7 +103,7 @@ fn word_at(chars: &[u8], at: usize) -> u16 {
 }
 
 /// A pointer to a part as the header asks for it: null is allowed where the length is 0, so it is what such a call gets.
-fn place<T>(part: &[T]) -> *const T {
+pub fn place<T>(part: &[T]) -> *const T {
     if part.is_empty() {
         std::ptr::null()
     } else {
@@ -112,7 +112,7 @@ fn place<T>(part: &[T]) -> *const T {
 }
 
 /// As `place`, for writing.
-fn place_mut<T>(part: &mut [T]) -> *mut T {
+pub fn place_mut<T>(part: &mut [T]) -> *mut T {
     if part.is_empty() {
         std::ptr::null_mut()
     } else {

@@ -1,6 +1,6 @@
-//! Runs the proved unit and the independent one side by side and compares everything.
+//! Runs the proved unit and the independent one side by side, and the two masters, and compares everything.
 //!
-//! usage: compare [--seed N] [--events N] [--calls N] [--break | --record FILE]
+//! usage: compare [--seed N] [--events N] [--calls N] [--polls N] [--break | --record FILE]
 
 mod aims;
 mod bends;
@@ -13,6 +13,7 @@ mod frames;
 mod image;
 mod pair;
 mod places;
+mod poll;
 mod raw;
 mod record;
 mod reduce;
@@ -51,6 +52,7 @@ struct Settings {
     seed: u64,
     events: u64,
     calls: u64,
+    polls: u64,
     broken: bool,
     record: Option<String>,
 }
@@ -60,6 +62,7 @@ fn settings() -> Result<Settings, String> {
         seed: 2179,
         events: 200_000,
         calls: 100_000,
+        polls: 1_000_000,
         broken: false,
         record: None,
     };
@@ -75,6 +78,7 @@ fn settings() -> Result<Settings, String> {
             "--seed" => made.seed = number()?,
             "--events" => made.events = number()?,
             "--calls" => made.calls = number()?,
+            "--polls" => made.polls = number()?,
             "--break" => made.broken = true,
             "--record" => made.record = words.next(),
             _ => return Err(format!("{word} is not known")),
@@ -178,9 +182,10 @@ fn main() -> ExitCode {
         if let Some(path) = &s.record {
             record(&s, path)
         } else if s.broken {
-            FAULTS.iter().try_for_each(|fault| find(&s, fault))
+            let units = FAULTS.iter().try_for_each(|fault| find(&s, fault));
+            units.and_then(|()| poll::find_faults(s.seed))
         } else {
-            compare(&s)
+            poll::compare(s.seed, s.polls).and_then(|()| compare(&s))
         }
     });
     println!("{} s", start.elapsed().as_secs());

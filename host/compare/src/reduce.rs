@@ -33,32 +33,46 @@ pub fn reduce(mut failure: Run, fault: Option<&'static Fault>) -> Run {
     failure
 }
 
-/// Leaves out halves, quarters and so on down to single events, until none can be spared.
+/// Leaves out events of a run of the units.
 fn fewer_events(failure: &mut Run, fault: Option<&'static Fault>) {
-    let mut part = failure.events.len();
+    let scene = &failure.scene;
+    fewer(&mut failure.events, |events| {
+        fails(scene, events, fault).map(|x| x.0)
+    });
+}
+
+/// Leaves out halves, quarters and so on down to single events, until none can be spared; `needed` tells with how many of its events a run
+/// fails, if it does.
+pub fn fewer<E: Clone>(events: &mut Vec<E>, needed: impl Fn(&[E]) -> Option<usize>) {
+    let mut part = events.len();
     while part > 0 {
-        let before = failure.events.len();
+        let before = events.len();
         let mut at = 0;
-        while at < failure.events.len() {
-            if !without(failure, at, part, fault) {
+        while at < events.len() {
+            if !without(events, at, part, &needed) {
                 at += part;
             }
         }
-        if part > 1 || failure.events.len() == before {
+        if part > 1 || events.len() == before {
             part /= 2;
         }
     }
 }
 
 /// Leaves out some events, and all behind the first difference, if the run still fails.
-fn without(failure: &mut Run, at: usize, part: usize, fault: Option<&'static Fault>) -> bool {
-    let mut events = failure.events.clone();
-    events.drain(at..(at + part).min(events.len()));
-    let Some((needed, _)) = fails(&failure.scene, &events, fault) else {
+fn without<E: Clone>(
+    events: &mut Vec<E>,
+    at: usize,
+    part: usize,
+    needed: impl Fn(&[E]) -> Option<usize>,
+) -> bool {
+    let mut fewer = events.clone();
+    fewer.drain(at..(at + part).min(fewer.len()));
+    let Some(many) = needed(&fewer) else {
         return false;
     };
-    events.truncate(needed);
-    failure.events = events;
+    fewer.truncate(many);
+    *events = fewer;
     true
 }
 

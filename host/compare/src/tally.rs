@@ -9,7 +9,7 @@ use crate::seen::SEEN;
 use independent::Answer;
 
 /// How often each thing must have been seen.
-const OFTEN: u64 = 100;
+pub const OFTEN: u64 = 100;
 const OUTCOMES: usize = 19;
 
 /// The counts.
@@ -136,7 +136,7 @@ fn print_row(name: &str, row: &[u64; OUTCOMES]) {
     println!();
 }
 
-fn print_list<'a>(head: &str, counts: impl Iterator<Item = (&'a str, u64)>) {
+pub fn print_list<'a>(head: &str, counts: impl Iterator<Item = (&'a str, u64)>) {
     let items: Vec<String> = counts.map(|(name, n)| format!("{name} {n}")).collect();
     println!("{head}: {}", items.join("; "));
 }
