@@ -27,6 +27,14 @@ enum {
     OSTURDAM_POLL_ROOM = 511    /* the least room for records that history is asked for with, and a reply read with */
 };
 
+/* Where a memory tells what a reply will answer, so that its data can be taken apart. */
+enum {
+    OSTURDAM_POLL_AT_LATEST = 4,   /* the latest history request: its file, 32 more for a dump, 64 more with the acknowledge bit */
+    OSTURDAM_POLL_AT_WAITING = 5,  /* what is outstanding: 0 nothing, 1 the latest history request, 2 another */
+    OSTURDAM_POLL_AT_FUNCTION = 6, /* the function of another */
+    OSTURDAM_POLL_AT_COMMAND = 7   /* and its command */
+};
+
 /* How a reply was read. The five refusals stand in the order in which they are judged; each sets the retry mark and changes nothing else. */
 enum osturdam_read {
     OSTURDAM_READ_NORMAL = 0,

@@ -1,4 +1,4 @@
-//! Links the static library, and takes the numbers of the C header over, so that they stand once.
+//! Links the static libraries, and takes the numbers of the C headers over, so that they stand once.
 
 use std::env;
 use std::fmt::Write;
@@ -16,20 +16,11 @@ fn constant(line: &str) -> Option<(&str, u32)> {
     Some((name, parsed.ok()?))
 }
 
-fn main() {
-    let root = Path::new(env!("CARGO_MANIFEST_DIR")).join("../..");
-    let header = root.join("include/osturdam.h");
-    let folder = env::var("BOARD_LIB").map_or(root.join("target/staticlib"), Into::into);
-    println!("cargo:rerun-if-env-changed=BOARD_LIB");
-    println!("cargo:rerun-if-changed={}", header.display());
-    println!(
-        "cargo:rerun-if-changed={}",
-        folder.join("libboard.a").display()
-    );
-    println!("cargo:rustc-link-search=native={}", folder.display());
-    println!("cargo:rustc-link-lib=static=board");
-
-    let text = fs::read_to_string(&header).expect("include/osturdam.h is read");
+/// The numbers of a header.
+fn numbers(root: &Path, name: &str) -> String {
+    let path = root.join("include").join(name);
+    println!("cargo:rerun-if-changed={}", path.display());
+    let text = fs::read_to_string(&path).expect("the header is read");
     let mut made = String::new();
     for (name, number) in text.lines().filter_map(constant) {
         writeln!(
@@ -38,6 +29,25 @@ fn main() {
         )
         .expect("a string is written to");
     }
+    made
+}
+
+/// Links both libraries out of the folder that BOARD_LIB names.
+fn link(root: &Path) {
+    let folder = env::var("BOARD_LIB").map_or(root.join("target/staticlib"), Into::into);
+    println!("cargo:rerun-if-env-changed=BOARD_LIB");
+    println!("cargo:rustc-link-search=native={}", folder.display());
+    for library in ["board", "poll"] {
+        let file = folder.join(format!("lib{library}.a"));
+        println!("cargo:rerun-if-changed={}", file.display());
+        println!("cargo:rustc-link-lib=static={library}");
+    }
+}
+
+fn main() {
+    let root = Path::new(env!("CARGO_MANIFEST_DIR")).join("../..");
+    link(&root);
+    let made = numbers(&root, "osturdam.h") + &numbers(&root, "osturdam_poll.h");
     let place = Path::new(&env::var("OUT_DIR").expect("cargo tells OUT_DIR")).join("header.rs");
     fs::write(place, made).expect("header.rs is written");
 }

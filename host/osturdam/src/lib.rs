@@ -23,8 +23,10 @@
 //! assert_eq!(Unit::from_bytes(&saved).to_bytes(), saved);
 //! ```
 //!
-//! The static library is looked for in the folder that the environment variable `BOARD_LIB` names while building, or else where
-//! the toolchain leaves it.
+//! The other end of the line is [`poll`]: a master that asks a unit and reads what it answers.
+//!
+//! The static libraries are looked for in the folder that the environment variable `BOARD_LIB` names while building, or else where the toolchain
+//! leaves them.
 #![deny(missing_docs, unsafe_op_in_unsafe_fn)]
 #![deny(unsafe_code)]
 
@@ -32,7 +34,9 @@ mod config;
 mod kept;
 mod memory;
 mod numbers;
+#[macro_use]
 mod outcome;
+pub mod poll;
 mod raw;
 mod unit;
 
@@ -42,7 +46,7 @@ pub use numbers::{ControlOutput, File, Input, Master, Ordinal, SpecialCalculatio
 pub use outcome::{Action, Outcome, Stored, Turn};
 pub use unit::Unit;
 
-/// The numbers of the C header, taken over by the build.
+/// The numbers of the C headers, taken over by the build.
 mod header {
     include!(concat!(env!("OUT_DIR"), "/header.rs"));
 }

@@ -1,4 +1,4 @@
-//! The calls of the static library: all that is unsafe.
+//! The calls of the static libraries: all that is unsafe.
 //!
 //! Why every call is sound. Each pointer comes from a reference that lives through the call, so it is not null, aligned, and of
 //! memory of just the length that the C header names or that is told beside it. What the library changes comes from a `&mut`, so
@@ -7,6 +7,7 @@
 #![allow(unsafe_code)]
 
 use crate::memory::{fitting, Memory, CONFIG, UNIT};
+use crate::poll::MEMORY;
 use crate::Config;
 
 type Chars = [u8; UNIT];
@@ -45,6 +46,13 @@ extern "C" {
     fn osturdam_store_record(
         unit: *mut Chars, block: *const u8, length: u64, records: *mut u8, room: u64,
         file: u8, event: u8, values: *const u16, many: u64) -> u8;
+    fn osturdam_poll_begin(poll: *mut [u8; MEMORY], address: u16);
+    fn osturdam_poll_ask(
+        poll: *mut [u8; MEMORY], room: u64, all: u8, function: u8, command: u8, body: *const u8, count: u64,
+        buffer: *mut u8, length: u64) -> u64;
+    fn osturdam_poll_read(
+        poll: *mut [u8; MEMORY], reply: *const u8, count: u64, room: *mut u8, length: u64, kept: *mut [u8; 2]) -> u8;
+    fn osturdam_poll_retry(poll: *const [u8; MEMORY]) -> u8;
 }
 
 pub(crate) fn check(start: u16, chars: &[u8]) -> u16 {
@@ -128,4 +136,48 @@ pub(crate) fn store_record(m: &mut Memory, file: u8, event: u8, values: &[u16]) 
             &mut m.unit, m.block.as_ptr(), lent, m.records.as_mut_ptr(), room,
             file, event, values.as_ptr(), values.len() as u64)
     }
+}
+
+pub(crate) fn poll_begin(poll: &mut [u8; MEMORY], address: u16) {
+    // SAFETY: above.
+    unsafe { osturdam_poll_begin(poll, address) }
+}
+
+/// What is asked for: of all units or of one, by function, command and data.
+pub(crate) struct Figures {
+    pub all: bool,
+    pub function: u8,
+    pub command: u8,
+    pub body: Vec<u8>,
+}
+
+#[rustfmt::skip]
+pub(crate) fn poll_ask(poll: &mut [u8; MEMORY], room: usize, wish: &Figures, buffer: &mut [u8]) -> u64 {
+    // SAFETY: above; `body` and `buffer` are told with lengths of memory that they have.
+    unsafe {
+        osturdam_poll_ask(
+            poll, room as u64, wish.all.into(), wish.function, wish.command, wish.body.as_ptr(), wish.body.len() as u64,
+            buffer.as_mut_ptr(), buffer.len() as u64)
+    }
+}
+
+/// How the reply was read, how many records stand in the front of the room, and how many characters each has.
+pub(crate) fn poll_read(
+    poll: &mut [u8; MEMORY],
+    reply: &[u8],
+    room: &mut [u8],
+) -> (u8, usize, usize) {
+    let mut kept = [0; 2];
+    // SAFETY: above; `reply` and `room` are told with lengths of memory that they have.
+    #[rustfmt::skip]
+    let read = unsafe {
+        osturdam_poll_read(poll, reply.as_ptr(), reply.len() as u64, room.as_mut_ptr(), room.len() as u64, &mut kept)
+    };
+    let [count, size] = kept.map(usize::from);
+    (read, count, size)
+}
+
+pub(crate) fn poll_retry(poll: &[u8; MEMORY]) -> bool {
+    // SAFETY: above.
+    unsafe { osturdam_poll_retry(poll) != 0 }
 }

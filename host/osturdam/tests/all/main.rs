@@ -6,5 +6,6 @@ mod cases;
 mod lag;
 mod letter;
 mod line;
+mod masters;
 mod pairs;
 mod saved;
