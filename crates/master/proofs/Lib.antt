@@ -1,6 +1,8 @@
 -- The laws that the proofs of this crate cite, and what its contracts leave open: nothing.
 pub mod SameLaws
+pub mod MarkedLaws
 pub mod ValuesLaws
+pub mod PlacedLaws
 pub mod RecordsLaws
 pub mod ChosenLaws
 pub mod AskLaws

@@ -1,3 +1,4 @@
 pub mod Polled
 pub mod Built
 pub mod Taken
+pub mod Marked

@@ -1,21 +1,25 @@
--- `master::values::agrees` meets its contract: entries of the same number are compared. Assumes nothing.
-use mathlib.Core.Path.{_∙_}
-use Prim.Native.Nat.{_+_, _*_}
+-- `master::values::agrees` meets its contract: two entries are compared, or there is but one. Assumes nothing.
+use mathlib.Core.Path.{_≡_, refl, _∙_}
+use Prim.Native.Nat.{_+_, _*_, _-_}
 use native.Mathlib.Omega.{arith}
 use borrow.Author.Needs.{needs}
+use borrow.Author.Tests.{eq-eqb, ne-eqb}
 use Rattle.frames.proofs.DataLaws.{part-up}
-use Rattle.master.proofs.ValuesLaws.{agrees-same, agrees-other}
+use Rattle.model.specs.Believe.{entryAt}
 use Rattle.master.proofs.values.agrees.Statement.{statement}
 use Rattle.master.proofs.values.agrees.Tie as tie
 
-shared-slice-read-if1 : tie.Need-shared-slice-read-if1
-shared-slice-read-if1 c = search needs
-
-shared-slice-read-if1-2 : tie.Need-shared-slice-read-if1-2
-shared-slice-read-if1-2 c = search needs
+returns : tie.Need-returns
+returns c = rw (eq-eqb _ _ (c .if1 .taken))
 
 mul-a : tie.Need-mul-a
 mul-a c = search needs
+
+wide-requires : tie.Need-wide-requires
+wide-requires c κs = search needs
+
+sub-b : tie.Need-sub-b
+sub-b c = search needs
 
 mul-b : tie.Need-mul-b
 mul-b c = search needs
@@ -47,19 +51,24 @@ part-same-end-2 c = search needs
 same-requires : tie.Need-same-requires
 same-requires c κs = search needs
 
-returns : tie.Need-returns
-returns c = agrees-same _ _ _ _ (c .before .before .before .if1 .taken) _ (c .same .ensures ∙ rw (part-up (c .before .before .before .before .before .before .before .before .args .ys .now) (5 * c .before .before .before .before .before .before .before .before .args .i) (5 * c .before .before .before .before .before .before .before .before .args .i + 5) 5 (omega arith), part-up (c .before .before .before .before .before .before .before .before .args .ys .now) (5 * c .before .before .before .before .before .before .before .before .args .j) (5 * c .before .before .before .before .before .before .before .before .args .j + 5) 5 (omega arith)))
-
 returns-2 : tie.Need-returns-2
-returns-2 c = agrees-other _ _ _ _ (c .if1 .left)
+unfolding entryAt
+returns-2 c =
+    rw (ne-eqb _ _ (c .before .before .before .before .if1 .left))
+    (c .same .ensures ∙ rw (
+      c .before .before .before .wide .ensures .0,
+      part-up (c .before .before .before .before .before .before .args .ys .now) (5 * c .before .before .before .before .before .before .args .i) (5 * c .before .before .before .before .before .before .args .i + 5) 5 (omega arith),
+      part-up (c .before .before .before .before .before .before .args .ys .now) (5 * (c .before .before .before .before .before .before .args .place - 1)) (5 * (c .before .before .before .before .before .before .args .place - 1) + 5) 5 (omega arith),
+    ))
 
 pub agrees-spec : {M : Type 1} → statement M
 agrees-spec =
     tie.close
     (tie.spec
-    shared-slice-read-if1
-    shared-slice-read-if1-2
+    returns
     mul-a
+    wide-requires
+    sub-b
     mul-b
     add-c
     add-d
@@ -70,5 +79,4 @@ agrees-spec =
     part-same-start-2
     part-same-end-2
     same-requires
-    returns
     returns-2)
