@@ -1,7 +1,7 @@
 -- Words that are alike: kept by bits divided and by xor; and places up that are the sum of two others.
 -- Assumes nothing.
 use mathlib.Core.Path.{_≡_, refl, sym, ap, ap₂, _∙_, subst}
-use Prim.Native.Nat.{ℕ, zero, suc, _+_, _*_, _/_, _%_, _^_, _<_}
+use Prim.Native.Nat.{ℕ, zero, suc, _+_, _*_, _/_, _%_, _^_, _≤_, _<_}
 use native.Mathlib.Nat.{add-comm, mod-lt, zero-mul, one-mul}
 use native.Mathlib.Numerals.{one-add}
 use native.Mathlib.Omega.{arith}
@@ -104,16 +104,19 @@ sum-is n a b e u h =
           (sym (factor-xor (bitXor (bitSteps a u) (bitSteps b u)) (bitSteps n u)) ∙ null (lost n a b) (lost-xor n a b) (lost-0 n a b) 16 u h e);
     }
 
--- the square of x^15 = 1 + x; and the fourth power of x^16 = x + x^2
-computed : (total (lost 30 0 2) 16 ≡ 0) × (total (lost 64 4 8) 16 ≡ 0)
+-- x^15 = 1 + x and its square; and the fourth power of x^16 = x + x^2
+computed : (total (lost 15 0 1) 16 ≡ 0) × (total (lost 30 0 2) 16 ≡ 0) × (total (lost 64 4 8) 16 ≡ 0)
 unfolding factor bitSteps bitStep
-computed = (refl, refl)
+computed = (refl, refl, refl)
 
-pub sum-30 : Sum 30 0 2
-sum-30 = sum-is 30 0 2 (computed .0)
+pub sum-15 : (n : ℕ) → 0 < n → n ≤ 2 → Sum (15 * n) 0 n
+sum-15 zero l h = absurd (omega arith)
+sum-15 (suc zero) l h = sum-is 15 0 1 (computed .0)
+sum-15 (suc (suc zero)) l h = sum-is 30 0 2 (computed .1)
+sum-15 (suc (suc (suc n))) l h = absurd (omega arith)
 
 pub sum-64 : Sum 64 4 8
-sum-64 = sum-is 64 4 8 (computed .1)
+sum-64 = sum-is 64 4 8 (computed .2)
 
 -- ---- a word comes back from three others, by the whole polynomial: its fourth power is x^64 + x^60 + x^8 + 1
 

@@ -83,6 +83,10 @@ in-high v s n x y e h is started =
     ∙ ap (λ k. bitSteps (8 * k) (bitXor v (line s))) e
     ∙ sym (whole v s)
 
+-- and r with the ones of y
+pub in-two : (y r : ℕ) → (Alike r (bitSteps 64 y)) × (parity r ≡ parity y) → r ≡ bitSteps 64 y
+in-two y r last = alike-same (last .0) (last .1 ∙ sym (parity-steps 64 y))
+
 -- ---- a longer one
 
 -- i characters of s are read from v on: w leaves what they leave, by the second factor, and the ones of a are odd as theirs are
@@ -115,9 +119,6 @@ read-eight v s i w a t y h r turned e =
           ∙ ap parity next;
     }
 
-pub read-end : (v : ℕ) (s : List ℕ) (i w a e r : ℕ) → i ≡ length s → Read v s i w a → (Alike e w) × (parity e ≡ parity a) → r ≡ bitSteps 64 e
+pub read-end : (v : ℕ) (s : List ℕ) (i w a r : ℕ) → i ≡ length s → Read v s i w a → (Alike r (bitSteps 64 w)) × (parity r ≡ parity a)
     → r ≡ checkFrom v s
-read-end v s i w a e r h k even last =
-    last
-    ∙ alike-same (alike-then (alike-steps 64 (even .0)) (k .left)) (parity-steps 64 e ∙ even .1 ∙ k .even)
-    ∙ ap (checkFrom v) (part-whole s i h)
+read-end v s i w a r h k last = alike-same (alike-then (last .0) (k .left)) (last .1 ∙ k .even) ∙ ap (checkFrom v) (part-whole s i h)

@@ -110,15 +110,15 @@ alike-same {a} {b} h p =
 
 -- ---- the second factor makes the ones odd or even
 
-parity-lt : (v : ℕ) → parity v < 2
+pub parity-lt : (v : ℕ) → parity v < 2
 unfolding parity
 parity-lt v = omega arith
 
-pub odd-changed : (r a : ℕ) → parity (bitXor a r) ≡ 1 → (Alike (bitXor r 0xC001) r) × (parity (bitXor r 0xC001) ≡ parity a)
-odd-changed r a h = (
+pub odd-changed : (r d : ℕ) → parity d ≡ 1 → (Alike (bitXor r 0xC001) r) × (parity (bitXor r 0xC001) ≡ parity (bitXor r d))
+odd-changed r d h = (
   record { same = factor-xor r 0xC001 ∙ ap (λ x. bitXor (factor r) x) second-none ∙ xor-zero-r (factor r) },
-  omega (arith, parity-xor a r, parity-xor r 0xC001, odd-ones .1, parity-lt a, parity-lt r),
+  parity-xor r 0xC001 ∙ ap (λ x. (parity r + x) % 2) (odd-ones .1 ∙ sym h) ∙ sym (parity-xor r d),
 )
 
-pub even-kept : (r a : ℕ) → (parity (bitXor a r) ≡ 1 → ⊥) → (Alike r r) × (parity r ≡ parity a)
-even-kept r a h = (record { same = refl }, omega (arith, h, parity-xor a r, parity-lt a, parity-lt r))
+pub even-kept : (r d : ℕ) → (parity d ≡ 1 → ⊥) → (Alike r r) × (parity r ≡ parity (bitXor r d))
+even-kept r d h = (record { same = refl }, omega (arith, h, parity-xor r d, parity-lt d, parity-lt r))

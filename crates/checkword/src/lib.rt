@@ -1,4 +1,4 @@
-// The check word of a list of characters from a starting value, worked with a table; a long list is folded first (document 01, "Frames"; paper 1.1.7).
+// The check word of a list of characters from a starting value: folded to two characters, which the table works (document 01, "Frames"; paper 1.1.7).
 mod reading;
 mod table;
 
@@ -14,30 +14,40 @@ ghost use lib.Bits.{bitXor};
 ghost use Rattle.checkword.specs.Check.{bitSteps, checkFrom};
 ghost use Rattle.checkword.specs.Alike.{Alike, Folded, parity};
 
-// By x^15 + x + 1 a bit is worth the bits 30 and 28 places up.
-fn fold(v: u64) -> u64
-    ensures { λ r. ⌜ Folded v r ⌝ }
+// By x^15 + x + 1 a bit is worth the bits 15 and 14 places up, and by its square, where n is 2, those 30 and 28 up.
+fn fold(v: u64, n: usize) -> u64
+    requires { ⌜ (0 < n) × (n ≤ 2) ⌝ }
+    ensures { λ r. ⌜ Folded n v r ⌝ }
 {
-    let x = v << 30;
-    (x ^ (x >> 2)) ^ ((v >> 34) << 34)
+    let k = 64 - 15 * n;
+    let x = v << (15 * n);
+    (x ^ (x >> n)) ^ ((v >> k) << k)
 }
 
 // Eight characters more are divided: by x^15 + x + 1 that is 64 places as the sum of 8 and 4.
 fn turn(v: u64) -> u64
     ensures { λ r. ⌜ Alike (bitSteps 64 r) (bitSteps 64 (bitSteps 64 v)) ⌝ }
 {
-    let y = fold(v);
+    let y = fold(v, 2);
     (y >> 4) ^ (y >> 8)
 }
 
-// The other factor, x + 1: x^15 + x + 1 itself makes the ones odd or even as those of a.
-fn evened(v: u64, a: u64) -> u64
-    ensures { λ e. ⌜ (Alike e v) × (parity e ≡ parity a) ⌝ }
+// The other factor, x + 1: x^15 + x + 1 itself makes the ones odd or even, here as those of v and d together.
+fn evened(v: u16, d: u64) -> u16
+    ensures { λ e. ⌜ (Alike e v) × (parity e ≡ parity (bitXor v d)) ⌝ }
 {
-    if u64::count_ones(a ^ v) % 2 == 1 {
+    if u64::count_ones(d) % 2 == 1 {
         return v ^ 0xc001;
     }
     v
+}
+
+// Eight characters are folded to the last two, which the table works. Division keeps the ones odd or even, so that to count them waits for no look-up.
+fn worked(v: u64, a: u64) -> u16
+    ensures { λ r. ⌜ (Alike r (bitSteps 64 v)) × (parity r ≡ parity a) ⌝ }
+{
+    let y = fold(fold(fold(v, 2), 1), 1);
+    evened(divided((y >> 48) as u16), a ^ y)
 }
 
 // What reaches past n characters of a start, which is as wide as two.
@@ -65,7 +75,7 @@ fn started(start: u16, x: u64, n: usize) -> u64
     v
 }
 
-// The list is folded to its last eight characters, one load a turn, and those the table works.
+// The list is folded to its last eight characters, one load a turn.
 fn folded(start: u16, s: &[u8]) -> u16
     requires { ⌜ 8 < length (now s) ⌝ }
     ensures { λ r. ⌜ r ≡ checkFrom start (now (s .entry)) ⌝ }
@@ -81,10 +91,10 @@ fn folded(start: u16, s: &[u8]) -> u16
         i += 8;
     }
     let w = eight(s, last);
-    divided(evened(turn(v) ^ w, a ^ w))
+    worked(turn(v) ^ w, a ^ w)
 }
 
-// Fewer characters are one number, which the table divides for less than folding costs (bench/checkword has the counts).
+// Fewer characters are one number as they stand.
 const LONG: usize = 9;
 
 #[no_mangle]
@@ -99,7 +109,9 @@ pub extern "C" fn check_word(start: u16, s: &[u8]) -> u16
         if n == 0 {
             return start;
         }
-        return divided(started(start, few(s), n));
+        let v = started(start, few(s), n);
+        return worked(v, v);
     }
-    divided(started(start, several(s), n))
+    let v = started(start, several(s), n);
+    worked(v, v)
 }

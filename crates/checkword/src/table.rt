@@ -269,17 +269,11 @@ fn words() -> [u16; 256]
     TABLE
 }
 
-// Eight characters, low ones first, where a first 0 divides to nothing. The table is laid out before the loop, as it would be at each look-up of the constant.
-pub fn divided(v: u64) -> u16
-    ensures { λ r. ⌜ r ≡ bitSteps 64 v ⌝ }
+// Two characters, low one first. The table is laid out before the look-ups, as it would be at each one of the constant.
+pub fn divided(v: u16) -> u16
+    ensures { λ r. ⌜ r ≡ bitSteps 16 v ⌝ }
 {
     let table = words();
-    let mut u = v;
-    let mut i: usize = 0;
-    while i < 8 {
-        let k = (u % 256) as usize;
-        u = (u >> 8) ^ (table[k] as u64);
-        i += 1;
-    }
-    u as u16
+    let u = (v >> 8) ^ table[(v % 256) as usize];
+    (u >> 8) ^ table[(u % 256) as usize]
 }

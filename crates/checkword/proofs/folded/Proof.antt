@@ -66,24 +66,20 @@ eight-requires-2 c κs = omega arith
 turn-requires-2 : tie.Need-turn-requires-2 Inv-loop μ-loop
 turn-requires-2 c κs = search needs
 
-evened-requires : tie.Need-evened-requires Inv-loop μ-loop
-evened-requires c κs = search needs
-
-divided-requires : tie.Need-divided-requires Inv-loop μ-loop
-divided-requires c κs = search needs
+worked-requires : tie.Need-worked-requires Inv-loop μ-loop
+worked-requires c κs = search needs
 
 returns : tie.Need-returns Inv-loop μ-loop
 returns c =
-    let l = c .before .before .before .before .before .loop in
-    let a = c .before .before .before .before .before .before .before .before .before .args in
+    let l = c .before .before .before .before .loop in
+    let a = c .before .before .before .before .before .before .before .before .args in
     let s = a .s .now in
     let e : length s - 8 ≡ l .i = omega arith in
     let h : l .i + 8 ≤ length s = omega arith in
-    let w = c .before .before .before .eight2 .ensures ∙ ap (λ j. line (part s j 8)) e in
-    read-end (a .start) s (l .i + 8) _ _ _ _ (omega arith)
-    (read-eight (a .start) s (l .i) (l .v) (l .a) _ _ h (l .inv .2) (c .before .before .turn2 .ensures) w)
-    (c .before .evened .ensures)
-    (c .divided .ensures)
+    let w = c .before .before .eight2 .ensures ∙ ap (λ j. line (part s j 8)) e in
+    read-end (a .start) s (l .i + 8) _ _ _ (omega arith)
+    (read-eight (a .start) s (l .i) (l .v) (l .a) _ _ h (l .inv .2) (c .before .turn2 .ensures) w)
+    (c .worked .ensures)
 
 pub folded-spec : {M : Type 1} → statement M
 folded-spec =
@@ -104,6 +100,5 @@ folded-spec =
     loop-again
     eight-requires-2
     turn-requires-2
-    evened-requires
-    divided-requires
+    worked-requires
     returns)

@@ -1,83 +1,42 @@
--- `checkword::table::divided` meets its contract. The loop's invariant: i characters of v are divided.
+-- `checkword::table::divided` meets its contract, by eight bits a look-up.
 -- Assumes nothing.
 use mathlib.Core.Path.{_≡_, sym, ap, _∙_}
-use Prim.Native.Nat.{_+_, _-_, _*_, _≤_}
+use Prim.Native.Nat.{_%_}
 use native.Mathlib.Omega.{arith}
 use borrow.Author.Needs.{needs}
 use Rattle.checkword.specs.Check.{bitSteps}
-use Rattle.checkword.specs.Table.{rule}
-use Rattle.checkword.proofs.Steps.{steps-none, bitSteps-add, sixteen}
-use Rattle.checkword.proofs.Words.{word-lt, xor-words}
+use Rattle.checkword.proofs.Steps.{bitSteps-add}
+use Rattle.checkword.proofs.Words.{xor-words}
 use Rattle.checkword.proofs.table.divided.Statement.{statement}
 use Rattle.checkword.proofs.table.divided.Tie as tie
 
-abbrev Inv-loop : tie.InvT-loop
-Inv-loop v table u₀ i₀ u i = (i ≤ 8) × (table ≡ rule) × (u ≡ bitSteps (8 * i) v)
-
-abbrev μ-loop : tie.MeasureT-loop
-μ-loop v table u₀ i₀ u i = 8 - i
-
-words-requires : tie.Need-words-requires Inv-loop μ-loop
+words-requires : tie.Need-words-requires
 words-requires c κs = search needs
 
-loop-holds : tie.Need-loop-holds Inv-loop μ-loop
-loop-holds c = (omega arith, c .words .ensures, sym (steps-none (c .before .args .v)))
+cast-u : tie.Need-cast-u
+cast-u c = omega arith
 
-mul-u : tie.Need-mul-u Inv-loop μ-loop
+mul-u : tie.Need-mul-u
 mul-u c = omega arith
 
-array-read-u : tie.Need-array-read-u Inv-loop μ-loop
+array-read-u : tie.Need-array-read-u
 array-read-u c = omega arith
 
-cast-u : tie.Need-cast-u Inv-loop μ-loop
-cast-u c = let l = c .before .loop in omega (arith, word-lt _ (l .inv .1) (l .u))
+cast-result : tie.Need-cast-result
+cast-result c = omega arith
 
-add-i : tie.Need-add-i Inv-loop μ-loop
-add-i c = omega arith
+mul-result : tie.Need-mul-result
+mul-result c = omega arith
 
-loop-less : tie.Need-loop-less Inv-loop μ-loop
-loop-less c = omega arith
+array-read-result : tie.Need-array-read-result
+array-read-result c = omega arith
 
-loop-again : tie.Need-loop-again Inv-loop μ-loop
-loop-again c =
-    let v = c .before .before .before .args .v in
-    let l = c .before .loop in
-    let e : 8 * l .i + 8 ≡ 8 * (l .i + 1) = omega arith in (
-      omega arith,
-      l .inv .1,
-      xor-words _ (l .inv .1) (l .u)
-          ∙ ap (bitSteps 8) (l .inv .2)
-          ∙ sym (bitSteps-add (8 * l .i) 8 v)
-          ∙ ap (λ k. bitSteps k v) e,
-    )
-
-cast-result : tie.Need-cast-result Inv-loop μ-loop
-cast-result c =
-    let v = c .before .before .before .args .v in
-    let l = c .before .loop in
-    let e : l .i ≡ 8 = omega arith in
-    omega (arith, l .inv .2 ∙ ap (λ i. bitSteps (8 * i) v) e, sixteen 64 v (omega arith))
-
-returns : tie.Need-returns Inv-loop μ-loop
+returns : tie.Need-returns
 returns c =
-    let v = c .before .before .before .args .v in
-    let l = c .before .loop in
-    let e : l .i ≡ 8 = omega arith in
-    l .inv .2 ∙ ap (λ i. bitSteps (8 * i) v) e
+    let v = c .before .args .v in
+    let t = c .words .ensures in
+    xor-words _ t _ ∙ ap (bitSteps 8) (xor-words _ t v) ∙ sym (bitSteps-add 8 8 v)
 
 pub divided-spec : {M : Type 1} → statement M
 divided-spec =
-    tie.close
-    (tie.spec
-    Inv-loop
-    μ-loop
-    words-requires
-    loop-holds
-    mul-u
-    array-read-u
-    cast-u
-    add-i
-    loop-less
-    loop-again
-    cast-result
-    returns)
+    tie.close (tie.spec words-requires cast-u mul-u array-read-u cast-result mul-result array-read-result returns)
