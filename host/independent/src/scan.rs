@@ -1,6 +1,7 @@
 //! Scans: functions 00, 0Ah and 03, and the points behind them.
 
 use crate::config::{Calculation, Config, Input, InputKind};
+use crate::contacts;
 use crate::frame::{Frame, Reply};
 use crate::outcome;
 use crate::state::State;
@@ -19,7 +20,7 @@ pub fn kind_bit(kind: InputKind) -> u8 {
 }
 
 /// Function 00: the words of every kind that the command asks for.
-pub fn basic(config: &Config, state: &State, frame: &Frame, reply: &mut Reply) -> u8 {
+pub fn basic(config: &Config, state: &mut State, frame: &Frame, reply: &mut Reply) -> u8 {
     if frame.command & !KIND_BITS != 0 {
         return outcome::UNKNOWN;
     }
@@ -30,6 +31,7 @@ pub fn basic(config: &Config, state: &State, frame: &Frame, reply: &mut Reply) -
     for number in (0..=255).map(Input) {
         if config.has_input(number) && number.kind().is_some_and(chosen) {
             reply.push_word(word(state, number));
+            contacts::carried(state, number);
         }
     }
     outcome::DONE
@@ -88,7 +90,7 @@ fn table_parts(area: &[u8; 256], number: u8) -> Option<[&[u8]; 3]> {
 }
 
 /// Function 0Ah: the words of a table and of the two it names.
-pub fn by_table(config: &Config, state: &State, frame: &Frame, reply: &mut Reply) -> u8 {
+pub fn by_table(config: &Config, state: &mut State, frame: &Frame, reply: &mut Reply) -> u8 {
     if !(0x41..=0x4F).contains(&frame.command) {
         return outcome::UNKNOWN;
     }
@@ -98,15 +100,19 @@ pub fn by_table(config: &Config, state: &State, frame: &Frame, reply: &mut Reply
     let Some(parts) = table_parts(&state.fixed.block_03, frame.command & 0x0F) else {
         return outcome::NOT_VALID;
     };
-    let numbers = || parts.iter().copied().flatten().copied().map(Input);
-    if !numbers().all(|number| config.has_input(number)) {
+    let numbers: Vec<Input> = parts.concat().into_iter().map(Input).collect();
+    if !numbers.iter().all(|&number| config.has_input(number)) {
         return outcome::NOT_VALID;
     }
-    if 2 * numbers().count() > Reply::DATA_LIMIT {
+    if 2 * numbers.len() > Reply::DATA_LIMIT {
         return outcome::TOO_LONG;
     }
-    for number in numbers() {
+    for &number in &numbers {
         reply.push_word(word(state, number));
+    }
+    // Only now, as a group that comes twice is the same word each time.
+    for number in numbers {
+        contacts::carried(state, number);
     }
     outcome::DONE
 }
@@ -174,9 +180,10 @@ pub fn reset_count(config: &Config, state: &mut State, data: &[u8]) -> u8 {
     outcome::DONE
 }
 
-/// Sets a status or analog word.
+/// Sets a simple status or analog word; two-bit words are made from contacts alone.
 pub fn set_word(config: &Config, state: &mut State, number: Input, word: u16) -> u8 {
-    if !config.has_input(number) || config.has_accumulator(number) {
+    let settable = matches!(number.kind(), Some(InputKind::Simple | InputKind::Analog));
+    if !config.has_input(number) || !settable {
         return outcome::NOT_VALID;
     }
     state.words[usize::from(number.0)] = word;

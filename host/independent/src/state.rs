@@ -5,7 +5,7 @@ use crate::clock::Clock;
 use crate::config::{Config, Output};
 use crate::control::Select;
 use crate::history::{self, HistoryReply};
-use crate::port;
+use crate::{contacts, port};
 
 /// The highest master address.
 pub const LAST_MASTER: u8 = 31;
@@ -35,6 +35,9 @@ pub struct State {
     pub dropped: [u16; history::FILES],
     /// The word of each input number.
     pub words: [u16; 256],
+    /// For each group of contacts, which changed since its last reply; says nothing where the
+    /// mark is set.
+    pub changed: [u8; contacts::GROUPS],
     /// The value of each calculation number, as a 32-bit pattern.
     pub values: [u32; 128],
     /// The blocks of ordinals 00, 03 and 0Bh.
@@ -60,6 +63,7 @@ impl State {
             files: vec![Vec::new(); history::FILES],
             dropped: [0; history::FILES],
             words: [0; 256],
+            changed: [0; contacts::GROUPS],
             values: [0; 128],
             fixed: FixedArea::EMPTY,
             silence: 0,

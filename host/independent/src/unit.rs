@@ -1,11 +1,11 @@
-//! The entries: one for a stretch, one for elapsed time, four for local events.
+//! The entries: one for a stretch, one for elapsed time, five for local events.
 
 use crate::config::{Calculation, Config, Input};
 use crate::control::Action;
 use crate::frame::{reply_function, Frame, Reply, Stretch, BROADCAST};
 use crate::outcome::{self, Sent};
 use crate::state::{fits, State};
-use crate::{block, clock, control, history, port, scan};
+use crate::{block, clock, contacts, control, history, port, scan};
 
 /// What a stretch came to.
 #[derive(Clone, Copy, Debug, PartialEq, Eq)]
@@ -197,7 +197,7 @@ pub fn elapsed(config: &Config, state: &mut State, params: &[u8], ms: u32) -> u8
     outcome::DONE
 }
 
-/// Local event: sets the word of a status or analog input: 0, 8 or 17.
+/// Local event: sets the word of a simple status or analog input: 0, 8 or 17.
 pub fn set_word(config: &Config, state: &mut State, params: &[u8], number: u8, word: u16) -> u8 {
     if !fits(config, state, params.len()) {
         return outcome::NO_CONFIG;
@@ -234,4 +234,12 @@ pub fn pulses(config: &Config, state: &mut State, params: &[u8], number: u8, cou
         return outcome::NO_CONFIG;
     }
     scan::pulses(config, state, Input(number), count)
+}
+
+/// Local event: gives the state of a contact, 0 or 1: 0, 8 or 17.
+pub fn contact(config: &Config, state: &mut State, params: &[u8], contact: u8, on: u8) -> u8 {
+    if !fits(config, state, params.len()) {
+        return outcome::NO_CONFIG;
+    }
+    contacts::report(config, state, contact, on)
 }

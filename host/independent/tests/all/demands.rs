@@ -10,6 +10,7 @@ enum Event {
     Time(u32),
     Pulses(u8, u16),
     Word(u8, u16),
+    Contact(u8, u8),
     Value(u8, u32),
     Store(u8, u8),
 }
@@ -50,12 +51,13 @@ fn pair(dice: &mut Dice, master: u8, unit: u16, ordinal: u8) -> Vec<u8> {
 }
 
 fn event(dice: &mut Dice) -> Event {
-    match dice.below(20) {
+    match dice.below(22) {
         0 => Event::Time(dice.pick(&[0, 1, 1_000, 4_999, 5_000, 5_001, 60_000])),
         1 => Event::Pulses(0x40, dice.below(65_536) as u16),
         2 => Event::Word(dice.pick(&[0x30, 0x80, 0x40]), dice.below(65_536) as u16),
         3 => Event::Value(4, dice.below(1 << 30) as u32),
-        4..=7 => Event::Store(dice.pick(&[0, 0, 1, 5, 2]), dice.byte()),
+        4 | 5 => Event::Contact(dice.pick(&[0, 7, 8, 255]), dice.pick(&[0, 1, 1, 2])),
+        6..=9 => Event::Store(dice.pick(&[0, 0, 1, 5, 2]), dice.byte()),
         _ => Event::Stretch(good_frame(dice)),
     }
 }
@@ -69,6 +71,7 @@ fn apply(rig: &mut Rig, event: &Event) -> (u8, Option<Got>) {
         Event::Time(ms) => (rig.wait(*ms), None),
         Event::Pulses(number, count) => (rig.pulses(*number, *count), None),
         Event::Word(number, word) => (rig.word(*number, *word), None),
+        Event::Contact(number, on) => (rig.contact(*number, *on), None),
         Event::Value(number, bits) => (rig.value(*number, *bits), None),
         Event::Store(file, kind) => {
             let values = rig.config.files[usize::from(*file)].unwrap_or(1);

@@ -170,6 +170,7 @@ fn select_of_an_unequipped_output_does_not_fit() {
 fn odd_but_harmless_states_fit() {
     assert!(fits_after(|state| state.files[0] = vec![vec![0xFF; 8]]));
     assert!(fits_after(|state| state.words = [0xFFFF; 256]));
+    assert!(fits_after(|state| state.changed = [0xFF; 32]));
     assert!(fits_after(|state| state.values = [u32::MAX; 128]));
     assert!(fits_after(|state| {
         state.select = Some(Select {
@@ -202,6 +203,7 @@ fn state_out_of_range_answers_17_to_every_event_and_changes_nothing() {
         [17; 3]
     );
     assert_eq!([rig.store(99, 0, &[]), rig.pulses(0x99, 0)], [17; 2]);
+    assert_eq!(rig.contact(99, 9), 17);
     assert_eq!(rig.state, before);
 }
 

@@ -5,6 +5,7 @@ mod blocks;
 mod calculations;
 mod cases;
 mod clock;
+mod contacts;
 mod control;
 mod demands;
 mod dice;

@@ -171,6 +171,10 @@ impl Rig {
         set_word(&self.config, &mut self.state, &self.params, number, word)
     }
 
+    pub fn contact(&mut self, number: u8, on: u8) -> u8 {
+        contact(&self.config, &mut self.state, &self.params, number, on)
+    }
+
     pub fn value(&mut self, number: u8, bits: u32) -> u8 {
         set_value(&self.config, &mut self.state, &self.params, number, bits)
     }

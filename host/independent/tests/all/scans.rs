@@ -6,9 +6,10 @@ use independent::Config;
 /// Every input of the full rig gets its number as both characters.
 fn marked() -> Rig {
     let mut rig = Rig::full();
-    for number in [0x00, 0x1F, 0x30, 0x3F, 0x80, 0xFF] {
+    for number in [0x30, 0x3F, 0x80, 0xFF] {
         assert_eq!(rig.word(number, u16::from(number) * 0x101), 0);
     }
+    rig.state.words[0x1F] = 0x1F1F;
     rig.pulses(0x40, 0x4040);
     rig.pulses(0x5F, 0x5F5F);
     rig
@@ -71,9 +72,9 @@ fn all_208_inputs_fit_one_reply() {
 }
 
 #[test]
-fn word_event_is_for_status_and_analog_only() {
+fn word_event_is_for_simple_status_and_analog_only() {
     let mut rig = Rig::full();
-    for number in [0x40, 0x5F, 0x01, 0x20, 0x41, 0x60, 0x81] {
+    for number in [0x00, 0x1F, 0x40, 0x5F, 0x01, 0x20, 0x41, 0x60, 0x81] {
         let before = rig.state.clone();
         assert_eq!(rig.word(number, 1), 8);
         assert_eq!(rig.state, before);
