@@ -42,15 +42,26 @@ static int place(int input)
     return input >= 0x30 && input < 0x60 ? 160 + input - 0x30 : POINTS;
 }
 
+// A contact for each bit of a two-bit word.
+void contacts(int group, unsigned states)
+{
+    for (int i = 0; i < 8; i++)
+        expect("a contact", contact(&u, 8 * group + i, states >> i & 1), OSTURDAM_DONE);
+}
+
+// No contact has changed since the last reply.
 static void fill(void)
 {
     for (int i = 0; i < OSTURDAM_INPUTS; i++)
         if (osturdam_has_input(&u.config, i) && i >= 0x40 && i < 0x60)
             expect("pulses", pulses(&u, i, 1000 + i), OSTURDAM_DONE);
+        else if (osturdam_has_input(&u.config, i) && i < OSTURDAM_GROUPS)
+            contacts(i, i + 3);
         else if (osturdam_has_input(&u.config, i))
             expect("a word", set_word(&u, i, 257 * i + 3), OSTURDAM_DONE);
     for (int i = 0; i < 127; i++)
         expect("a value", set_value(&u, i, 0x01030507u * i), OSTURDAM_DONE);
+    ask(0x00, 0x04, "", 0, 0, OSTURDAM_DONE);
 }
 
 static void equip_all(int points, int files)

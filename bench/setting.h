@@ -28,4 +28,7 @@ void store(int file, int n);
 // The table area, in two parts.
 void write_tables(const uint8_t area[256]);
 
+// The eight contacts of a group are in these states.
+void contacts(int group, unsigned states);
+
 #endif

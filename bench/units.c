@@ -196,6 +196,12 @@ uint8_t set_word(struct units *u, uint8_t input, uint16_t word)
                   rust_set_word(u->rust, input, word));
 }
 
+uint8_t contact(struct units *u, uint8_t contact, uint8_t state)
+{
+    return agreed("contact", osturdam_take_contact(&u->lent, contact, state), plain_contact(&u->plain_config, &u->plain, contact, state),
+                  rust_contact(u->rust, contact, state));
+}
+
 uint8_t pulses(struct units *u, uint8_t input, uint16_t count)
 {
     return agreed("pulses", osturdam_take_pulses(&u->lent, input, count), plain_pulses(&u->plain_config, &u->plain, input, count),

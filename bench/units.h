@@ -13,6 +13,7 @@ struct rust_unit *rust_fresh(const struct plain_config *c);
 struct plain_turned rust_stretch(struct rust_unit *u, const uint8_t *stretch, size_t heard, uint8_t *buffer, size_t room, uint32_t lag);
 uint8_t rust_elapsed(struct rust_unit *u, uint32_t ms);
 uint8_t rust_set_word(struct rust_unit *u, uint8_t input, uint16_t word);
+uint8_t rust_contact(struct rust_unit *u, uint8_t contact, uint8_t state);
 uint8_t rust_pulses(struct rust_unit *u, uint8_t input, uint16_t count);
 uint8_t rust_set_value(struct rust_unit *u, uint8_t calculation, uint32_t value);
 uint8_t rust_store_record(struct rust_unit *u, uint8_t file, uint8_t event, const uint16_t *given, size_t many);
@@ -41,6 +42,7 @@ uint8_t stretch(struct units *u, const uint8_t *stretch, size_t heard, int count
 uint8_t store_record(struct units *u, uint8_t file, uint8_t event, const uint16_t *given, size_t many, int counted);
 uint8_t elapsed(struct units *u, uint32_t ms);
 uint8_t set_word(struct units *u, uint8_t input, uint16_t word);
+uint8_t contact(struct units *u, uint8_t contact, uint8_t state);
 uint8_t pulses(struct units *u, uint8_t input, uint16_t count);
 uint8_t set_value(struct units *u, uint8_t calculation, uint32_t value);
 

@@ -296,8 +296,16 @@ static void most_records(void)
 static void points(void)
 {
     begin();
+    osturdam_equip_input(&config, 0x00);
+    start();
     EXPECT(OSTURDAM_DONE, osturdam_take_word(&lent, 0x30, 0x8001));
     expect("a word", 0x8001, osturdam_word_of(&all.unit, 0x30));
+    EXPECT(OSTURDAM_DONE, osturdam_take_contact(&lent, 5, 1));
+    EXPECT(OSTURDAM_DONE, osturdam_take_contact(&lent, 5, 0));
+    expect("a marked contact", 0x2000, osturdam_word_of(&all.unit, 0x00));
+    expect("a changed contact", 0x20, all.unit.changed[0]);
+    EXPECT(OSTURDAM_NOT_VALID, osturdam_take_contact(&lent, 5, 2));
+    EXPECT(OSTURDAM_NOT_VALID, osturdam_take_word(&lent, 0x00, 1));
     EXPECT(OSTURDAM_DONE, osturdam_take_pulses(&lent, 0x40, 0x1234));
     expect("a count", 0x1234, osturdam_word_of(&all.unit, 0x40));
     EXPECT(OSTURDAM_DONE, osturdam_take_value(&lent, OSTURDAM_CALCULATIONS - 1, 0x12345678));

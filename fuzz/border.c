@@ -143,6 +143,15 @@ static void read_stretch(struct call *c)
     c->value = lag;
 }
 
+/* A contact, mostly in one of its two states. */
+static void read_contact(struct call *c)
+{
+    c->number = (uint8_t)next(1);
+    unsigned state = next(1);
+    c->value = state < 0xF0 ? state % 2 : state;
+    c->kind = CONTACT;
+}
+
 /* A record, mostly with as many values as its file has. */
 static void read_record(struct call *c)
 {
@@ -223,8 +232,8 @@ static bool read_event(struct call *c)
     case 8: read_local(c, SET_WORD); return true;
     case 9: read_local(c, PULSE); return true;
     case 10: read_local(c, SET_VALUE); return true;
-    case 11:
-    case 12: read_record(c); return true;
+    case 11: read_record(c); return true;
+    case 12: read_contact(c); return true;
     case 13: read_number(); return false;
     case 14: read_change(); return false;
     case 15: read_lengths(); return false;

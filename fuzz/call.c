@@ -11,7 +11,7 @@
 enum { SHORTEST_REPLY = 9 };
 
 /* The regions of a unit's memory, of which each kind of event may change some. */
-enum region { LAYOUT, CONFIGURATION, NUMBERS, WORDS, RESULTS, FIXED, COUNTS, DROPPED, REGIONS };
+enum region { LAYOUT, CONFIGURATION, NUMBERS, WORDS, RESULTS, FIXED, COUNTS, DROPPED, CHANGED, REGIONS };
 static const struct {
     const char *name;
     size_t from, to;
@@ -23,7 +23,8 @@ static const struct {
     [RESULTS] = {"results", OSTURDAM_AT_RESULTS, OSTURDAM_AT_FIXED},
     [FIXED] = {"fixed", OSTURDAM_AT_FIXED, OSTURDAM_AT_COUNTS},
     [COUNTS] = {"counts", OSTURDAM_AT_COUNTS, OSTURDAM_AT_DROPPED},
-    [DROPPED] = {"numbers dropped", OSTURDAM_AT_DROPPED, OSTURDAM_UNIT},
+    [DROPPED] = {"numbers dropped", OSTURDAM_AT_DROPPED, OSTURDAM_AT_CHANGED},
+    [CHANGED] = {"contacts that changed", OSTURDAM_AT_CHANGED, OSTURDAM_UNIT},
 };
 
 /* What each kind of event may change, as bits of parts and of regions. */
@@ -31,12 +32,13 @@ static const struct {
     unsigned parts, regions;
 } changes[] = {
     [BEGIN] = {1u << BLOCK, (1u << REGIONS) - 1},
-    [HEAR] = {1u << BLOCK | 1u << RECORDS | 1u << BUFFER, 1u << NUMBERS | 1u << WORDS | 1u << FIXED | 1u << COUNTS},
+    [HEAR] = {1u << BLOCK | 1u << RECORDS | 1u << BUFFER, 1u << NUMBERS | 1u << WORDS | 1u << FIXED | 1u << COUNTS | 1u << CHANGED},
     [ELAPSE] = {0, 1u << NUMBERS},
     [SET_WORD] = {0, 1u << WORDS},
     [PULSE] = {0, 1u << WORDS},
     [SET_VALUE] = {0, 1u << RESULTS},
     [STORE] = {1u << RECORDS, 1u << NUMBERS | 1u << COUNTS | 1u << DROPPED},
+    [CONTACT] = {0, 1u << WORDS | 1u << CHANGED},
 };
 
 static struct picture *before, *after;
@@ -97,6 +99,7 @@ static uint8_t local(const struct call *c)
     switch (c->kind) {
     case ELAPSE: return osturdam_elapsed(LENT, c->value);
     case SET_WORD: return osturdam_set_word(LENT, c->number, (uint16_t)c->value);
+    case CONTACT: return osturdam_contact(LENT, c->number, (uint8_t)c->value);
     case PULSE: return osturdam_pulses(LENT, c->number, (uint16_t)c->value);
     case SET_VALUE: return osturdam_set_value(LENT, c->number, c->value);
     case STORE:
@@ -250,10 +253,45 @@ static void check_stored(const struct call *c, uint8_t outcome)
     hold(as_before(RECORDS, from, from + many), c, "changed in the remembered", "records");
 }
 
+/* A contact that changes is marked where it has changed before; no other contact is touched. */
+static void check_contact(const struct call *c, uint8_t outcome)
+{
+    struct osturdam_unit u = unit_in(before), left = unit_in(after);
+    uint8_t group = c->number / 8, bit = (uint8_t)(1u << c->number % 8);
+    uint16_t word = osturdam_word_of(&u, group);
+    bool taken = osturdam_has_input(&u.config, group) && c->value < 2, changes = taken && ((word & bit) != 0) != (c->value == 1);
+    if (changes)
+        word = (uint16_t)((word ^ bit) | (u.changed[group] & bit) << 8);
+    hold((outcome == OSTURDAM_DONE) == taken, c, "a contact was taken, or not, against", "the configuration");
+    hold(osturdam_word_of(&left, group) == word, c, "another word of", "the group");
+    hold(left.changed[group] == (changes ? u.changed[group] | bit : u.changed[group]), c, "another tally of", "the group");
+}
+
+/* What a group has to tell after a stretch: nothing where a normal reply carried it, else all that it had. */
+static void check_group(const struct call *c, uint8_t group, bool scan, bool all)
+{
+    struct osturdam_unit u = unit_in(before), left = unit_in(after);
+    uint16_t was = osturdam_word_of(&u, group), is = osturdam_word_of(&left, group);
+    bool kept = is == was && left.changed[group] == u.changed[group], cleared = is == (was & 0xFF) && left.changed[group] == 0;
+    bool equipped = osturdam_has_input(&u.config, group);
+    hold(kept || (scan && equipped && cleared), c, "cleared without", "a reply that carried it");
+    hold(!all || !equipped || cleared, c, "kept after", "a reply that carried it");
+}
+
+static void check_told(const struct call *c, uint8_t outcome)
+{
+    const uint8_t *s = lent[STRETCH].at;
+    bool done = outcome == OSTURDAM_DONE && lent[STRETCH].length > 3, kinds = done && s[2] == 0x00;
+    for (uint8_t group = 0; group < OSTURDAM_GROUPS; group++)
+        check_group(c, group, (kinds && s[3] & 4) || (done && s[2] == 0x0A), kinds && s[3] & 4);
+}
+
 static void check_local(const struct call *c, uint8_t outcome)
 {
     if (c->kind == STORE)
         check_stored(c, outcome);
+    else if (c->kind == CONTACT)
+        check_contact(c, outcome);
     else
         hold(outcome == OSTURDAM_DONE || (outcome == OSTURDAM_NOT_VALID && c->kind != ELAPSE), c, "no such answer", "");
 }
@@ -268,6 +306,7 @@ static void check_answer(const struct call *c, const struct answer *t)
         check_parts(c);
         check_reply(c, t);
         check_lag(c, t->outcome);
+        check_told(c, t->outcome);
     } else if (!refused) {
         check_local(c, t->outcome);
     }

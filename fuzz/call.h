@@ -6,16 +6,16 @@
 #include <stddef.h>
 #include <stdint.h>
 
-enum kind { BEGIN, HEAR, ELAPSE, SET_WORD, PULSE, SET_VALUE, STORE };
+enum kind { BEGIN, HEAR, ELAPSE, SET_WORD, PULSE, SET_VALUE, STORE, CONTACT };
 
 enum { CALL_TURNED = 4 }; /* characters in which a stretch is answered */
 
 struct call {
     enum kind kind;
     bool nulls;     /* parts of no length are lent as null */
-    uint8_t number; /* of an input, calculation or file */
+    uint8_t number; /* of an input, contact, calculation or file */
     uint8_t event;
-    uint32_t value; /* milliseconds, word, count or value; of a stretch its lag */
+    uint32_t value; /* milliseconds, word, count, value or state; of a stretch its lag */
 };
 
 /* Calls twice from the same memory and checks; what fails is printed and ends the program. */

@@ -11,6 +11,10 @@
     uint8_t *unit, const uint8_t *block, uint64_t length, uint8_t *records, uint64_t room, uint8_t file, uint8_t event, \
         const uint16_t *values, uint64_t many
 
+#define GIVEN uint8_t *unit, const uint8_t *block, uint64_t length, const uint8_t *records, uint64_t room, uint8_t contact, uint8_t state
+
+uint8_t __real_osturdam_contact(GIVEN);
+uint8_t __wrap_osturdam_contact(GIVEN);
 uint8_t __real_osturdam_store_record(STORED);
 uint8_t __wrap_osturdam_store_record(STORED);
 uint8_t __real_osturdam_stretch(PARAMETERS);
@@ -41,6 +45,8 @@ uint8_t __wrap_osturdam_stretch(PARAMETERS)
     case 12: if (refused && room < asked) outcome = OSTURDAM_NOT_WHOLE; break;        /* served with too few records */
     case 13: if (refused && other) outcome = OSTURDAM_NOT_WHOLE; break;               /* a memory of another layout is served */
     case 14: if (done) unit[OSTURDAM_AT_NUMBERS + 2 * OSTURDAM_SILENCE] = lag & 1; break; /* the lag counts as silence */
+    case 18: if (done && buffer[2] == 0) unit[OSTURDAM_AT_WORDS + 1] |= 1; break;         /* a mark that no contact has */
+    case 19: if (answered && !done) unit[OSTURDAM_AT_CHANGED] ^= 1; break;               /* a refusal that changes the tally */
     case 15: if (lag > OSTURDAM_LAG_MS && outcome == OSTURDAM_NOT_VALID) outcome = OSTURDAM_DONE; break; /* a lag too long is taken */
     }
     /* clang-format on */
@@ -60,4 +66,16 @@ uint8_t __wrap_osturdam_store_record(STORED)
     }
     /* clang-format on */
     return stored;
+}
+
+uint8_t __wrap_osturdam_contact(GIVEN)
+{
+    uint8_t outcome = __real_osturdam_contact(unit, block, length, records, room, contact, state);
+    /* clang-format off */
+    switch (PLANTED) {
+    case 20: if (outcome == OSTURDAM_DONE) unit[OSTURDAM_AT_WORDS + contact / 8 * 2 + 1] |= unit[OSTURDAM_AT_CHANGED + contact / 8]; break; /* marked at once */
+    case 21: if (outcome == OSTURDAM_NOT_VALID && state > 1) outcome = OSTURDAM_DONE; break; /* a state that is none is taken */
+    }
+    /* clang-format on */
+    return outcome;
 }

@@ -47,6 +47,10 @@ def word(number, value):
     return struct.pack('<BBH', 8, number, value)
 
 
+def contact(number, state):
+    return bytes([12, number, state])
+
+
 def pulses(number, count):
     return struct.pack('<BBH', 9, number, count)
 
@@ -99,6 +103,10 @@ LAST = frame(0x20, 0x38, b'\x03\x66\x23\x59\x59\x03\xe7')
 DUMP, NEXT = frame(0x04, 0x60), frame(0x04, 0x40)
 INPUTS = {
     'scan': head() + word(0x30, 0x8001) + pulses(0x40, 65535) + pulses(0x40, 1) + word(0xFF, 7) + SCAN + frame(0x00, 0x41),
+    'contacts': head() + contact(0, 1) + contact(0, 0) + contact(0, 1) + frame(0x00, 0x41) + frame(0x00, 0x4D, b'\0') + SCAN + contact(0, 0) + SCAN
+                + contact(255, 1) + contact(255, 1) + contact(7, 0xF2) + word(0x00, 1) + write(3, 0, bytes([0, 3, 31, 0, 31])) + contact(255, 0)
+                + frame(0x0A, 0x40, low=1) + frame(0x0A, 0x40, low=1),
+    'contacts-sparse': head(density=60) + b''.join(contact(n, 1) for n in range(0, 256, 8)) + SCAN,
     'sparse': head(density=60) + word(0x30, 1) + SCAN + frame(0x03, 0x80) + frame(0x20, 0x11, b'\x41'),
     'values': head(density=200) + value(5, 0x7FC00001) + frame(0x03, 0x80) + frame(0x03, 0x00, bytes(range(100))) + frame(0x03, 0x00, bytes(103)),
     'too-long': head() + frame(0x03, 0x80) + frame(0x03, 0x00, bytes(128)),

@@ -36,7 +36,7 @@ extern "C" {
 /* Of this interface: one more where a call changes, or the meaning of what it takes. Where a unit's memory changes, OSTURDAM_LAYOUT is
  * another, and a unit that was stored in another layout is OSTURDAM_NOT_CONFIGURED. A program holds this header to its library once, before
  * its first unit: osturdam_layout() == OSTURDAM_LAYOUT. */
-#define OSTURDAM_VERSION 5
+#define OSTURDAM_VERSION 6
 
 /* ---- limits, lengths, and where a unit's parts lie in its memory */
 
@@ -47,6 +47,7 @@ enum {
     OSTURDAM_INPUTS = 256,          /* input, output and calculation numbers */
     OSTURDAM_CALCULATIONS = 128,    /* calculation values kept */
     OSTURDAM_FILES = 32,            /* history files */
+    OSTURDAM_GROUPS = 32,           /* groups of eight contacts: the inputs of two-bit status */
     OSTURDAM_FIXED = 528,           /* characters of the blocks of fixed length */
     OSTURDAM_BLOCK = 512,           /* the longest parameter block */
     OSTURDAM_FRAME = 136,           /* the longest frame of a master */
@@ -61,8 +62,8 @@ enum {
     OSTURDAM_SILENT_MS = 60000,     /* after how long with no stretch a port is silent */
     OSTURDAM_LAG_MS = 10000,        /* the longest lag with which a Set Time is taken */
     OSTURDAM_CONFIG = 868,          /* characters of a configuration, which lies from AT_NUMBER on in a unit's memory */
-    OSTURDAM_UNIT = 2570,           /* characters of a unit's memory */
-    OSTURDAM_LAYOUT = 3,            /* the number of this layout, which stands first in the memory */
+    OSTURDAM_UNIT = 2602,           /* characters of a unit's memory */
+    OSTURDAM_LAYOUT = 4,            /* the number of this layout, which stands first in the memory */
     OSTURDAM_AT_LAYOUT = 0,
     OSTURDAM_AT_NUMBER = 2,
     OSTURDAM_AT_LENGTH = 4,
@@ -78,6 +79,7 @@ enum {
     OSTURDAM_AT_FIXED = 1946,
     OSTURDAM_AT_COUNTS = 2474,
     OSTURDAM_AT_DROPPED = 2506,
+    OSTURDAM_AT_CHANGED = 2570,
     OSTURDAM_AT_00 = 1946,          /* the block of ordinal 00h */
     OSTURDAM_LENGTH_00 = 16,
     OSTURDAM_AT_03 = 1962,          /* the block of ordinal 03h */
@@ -221,6 +223,7 @@ struct osturdam_unit {
     uint8_t fixed[OSTURDAM_FIXED];          /* the blocks of ordinals 00, 03 and 0Bh */
     uint8_t counts[OSTURDAM_FILES];         /* how many records each file holds */
     uint8_t dropped[2 * OSTURDAM_FILES];    /* and how many it has dropped */
+    uint8_t changed[OSTURDAM_GROUPS];       /* of each group of contacts: which have changed since its last reply */
 };
 
 /* What a unit's caller lends. Each equipped file has room for OSTURDAM_ROOM records of its own length, one behind the other with the oldest
@@ -298,6 +301,9 @@ uint8_t osturdam_elapsed(uint8_t unit[OSTURDAM_UNIT], const uint8_t *block, uint
 
 uint8_t osturdam_set_word(uint8_t unit[OSTURDAM_UNIT], const uint8_t *block, uint64_t length, const uint8_t *records, uint64_t room,
                           uint8_t input, uint16_t word);
+
+uint8_t osturdam_contact(uint8_t unit[OSTURDAM_UNIT], const uint8_t *block, uint64_t length, const uint8_t *records, uint64_t room,
+                         uint8_t contact, uint8_t state);
 
 uint8_t osturdam_pulses(uint8_t unit[OSTURDAM_UNIT], const uint8_t *block, uint64_t length, const uint8_t *records, uint64_t room,
                         uint8_t input, uint16_t count);
@@ -571,10 +577,19 @@ static inline enum osturdam_outcome osturdam_wait(const struct osturdam_lent *l,
     return (enum osturdam_outcome)outcome;
 }
 
-/* A status or analog word is now this. */
+/* A word of simple status or an analog is now this; two-bit status comes from its contacts alone. */
 static inline enum osturdam_outcome osturdam_take_word(const struct osturdam_lent *l, uint8_t input, uint16_t word)
 {
     uint8_t outcome = osturdam_set_word((uint8_t *)l->unit, l->block, l->length, l->records, l->room, input, word);
+    return (enum osturdam_outcome)outcome;
+}
+
+/* A contact is now in this state, 0 or 1: contact 8g + i is at place i of group g, which is the input of that number. The word of a group has
+ * the states in its low eight bits and in its high eight a mark for each contact that has changed more than once since the last reply that
+ * carried the word. */
+static inline enum osturdam_outcome osturdam_take_contact(const struct osturdam_lent *l, uint8_t contact, uint8_t state)
+{
+    uint8_t outcome = osturdam_contact((uint8_t *)l->unit, l->block, l->length, l->records, l->room, contact, state);
     return (enum osturdam_outcome)outcome;
 }
 

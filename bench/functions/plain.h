@@ -27,6 +27,7 @@ struct plain_kept {
 struct plain_unit {
     struct plain_kept kept;
     uint16_t words[OSTURDAM_INPUTS];
+    uint8_t changed[OSTURDAM_GROUPS]; // a bit for each contact
     uint32_t results[OSTURDAM_CALCULATIONS];
     uint8_t block_00[OSTURDAM_LENGTH_00], block_03[OSTURDAM_LENGTH_03], block_0b[OSTURDAM_LENGTH_0B];
     uint8_t block[OSTURDAM_BLOCK];
@@ -46,6 +47,7 @@ struct plain_turned plain_stretch(const struct plain_config *c, struct plain_uni
                                   size_t room, uint32_t lag);
 uint8_t plain_elapsed(const struct plain_config *c, struct plain_unit *u, uint32_t ms);
 uint8_t plain_set_word(const struct plain_config *c, struct plain_unit *u, uint8_t input, uint16_t word);
+uint8_t plain_contact(const struct plain_config *c, struct plain_unit *u, uint8_t contact, uint8_t state);
 uint8_t plain_pulses(const struct plain_config *c, struct plain_unit *u, uint8_t input, uint16_t count);
 uint8_t plain_set_value(const struct plain_config *c, struct plain_unit *u, uint8_t calculation, uint32_t value);
 uint8_t plain_store_record(const struct plain_config *c, struct plain_unit *u, uint8_t file, uint8_t event, const uint16_t *given,

@@ -57,6 +57,12 @@ static inline bool accumulator(const Config *c, uint8_t input)
     return c->inputs[input] && input >= 0x40 && input < 0x60;
 }
 
+// A group of contacts.
+static inline bool two_bit(uint8_t input)
+{
+    return input / OSTURDAM_GROUPS == 0;
+}
+
 static inline unsigned record_size(const Config *c, unsigned file)
 {
     return OSTURDAM_RECORD_HEAD + 2 * c->values[file];

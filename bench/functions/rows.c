@@ -31,6 +31,37 @@ static void points(void)
     ask(0x00, 0x4D, "", 0, 1, OSTURDAM_DONE);
 }
 
+// All contacts have bounced: each word has eight marks.
+static void bounce(void)
+{
+    for (int g = 0; g < OSTURDAM_GROUPS; g++) {
+        contacts(g, 0xFF);
+        contacts(g, 0x00);
+        contacts(g, 0xFF);
+    }
+}
+
+static void marked_points(void)
+{
+    bounce();
+    ask(0x00, 0x4D, "", 0, 1, OSTURDAM_DONE);
+}
+
+static void marked_table(void)
+{
+    three_parts();
+    bounce();
+    ask(0x0A, 0x42, "", 0, 1, OSTURDAM_DONE);
+}
+
+static void marked_one(void)
+{
+    fifteen();
+    contacts(0, 1);
+    contacts(0, 0);
+    ask(0x0A, 0x41, "", 0, 1, OSTURDAM_DONE);
+}
+
 static void table(void)
 {
     three_parts();
@@ -107,14 +138,17 @@ int main(int argc, char **argv)
     static const struct {
         const char *name;
         void (*run)(void);
-    } rows[] = {{"points", points},  {"table", table},  {"last", last_table}, {"first", first_table}, {"values", values}, {"dump", dump},
-                {"store", one_more}, {"swap", swapped}, {"release", release}, {"refused", refused},   {"set", set_time},  {"pair", both}};
+    } rows[] = {
+        {"points", points}, {"table", table},          {"last", last_table},           {"first", first_table},     {"values", values},
+        {"dump", dump},     {"marked", marked_points}, {"marked-table", marked_table}, {"marked-one", marked_one}, {"store", one_more},
+        {"swap", swapped},  {"release", release},      {"refused", refused},           {"set", set_time},          {"pair", both}};
     equip(POINTS);
     for (size_t i = 0; argc == 2 && i < sizeof rows / sizeof rows[0]; i++)
         if (strcmp(argv[1], rows[i].name) == 0) {
             rows[i].run();
             return 0;
         }
-    fprintf(stderr, "usage: rows points | table | last | first | values | dump | store | swap | release | refused | set | pair\n");
+    fprintf(stderr, "usage: rows points | marked | marked-table | marked-one | table | last | first | values | dump | store | swap | "
+                    "release | refused | set | pair\n");
     return 2;
 }

@@ -58,6 +58,11 @@ uint8_t set_word(struct units *u, uint8_t input, uint16_t word)
     return (uint8_t)osturdam_take_word(&u->lent, input, word);
 }
 
+uint8_t contact(struct units *u, uint8_t contact, uint8_t state)
+{
+    return (uint8_t)osturdam_take_contact(&u->lent, contact, state);
+}
+
 uint8_t pulses(struct units *u, uint8_t input, uint16_t count)
 {
     return (uint8_t)osturdam_take_pulses(&u->lent, input, count);

@@ -114,12 +114,25 @@ static void configure(void)
     osturdam_begin(&lent, &config);
 }
 
+/* Contacts that bring a group to its word: those that are marked change twice more. */
+static void contacts(uint8_t group, uint16_t word)
+{
+    for (uint8_t i = 0; i < 8; i++) {
+        uint8_t contact = (uint8_t)(8 * group + i), state = word >> i & 1;
+        unsigned marked = word >> (8 + i) & 1;
+        for (int change = marked ? 2 : 0; change >= 0; change--)
+            must(osturdam_take_contact(&lent, contact, (uint8_t)(state ^ (change & 1))), "a contact");
+    }
+}
+
 /* Words and values that show every character and the sign; accumulators are counted up. */
 static void measure(void)
 {
     for (size_t i = 0; i < sizeof inputs; i++) {
         if (inputs[i] >= 0x40 && inputs[i] < 0x60)
             must(osturdam_take_pulses(&lent, inputs[i], words[i]), "a pulse count");
+        else if (inputs[i] < OSTURDAM_GROUPS)
+            contacts(inputs[i], words[i]);
         else
             must(osturdam_take_word(&lent, inputs[i], words[i]), "a word");
     }

@@ -31,9 +31,9 @@ static void print_word(uint8_t inputs, size_t number, uint16_t word)
         print_bits(word, 16);
     } else if (inputs == TWO_BIT) {
         printf("two-bit %zu: states ", number);
-        print_bits(word >> 8, 8);
-        printf(", changed ");
         print_bits(word, 8);
+        printf(", changed ");
+        print_bits(word >> 8, 8);
     } else
         printf("word %zu: %u, signed %d", number, word, (int16_t)word);
     printf(" (%04Xh)\n", word);

@@ -7,7 +7,7 @@
 
 enum { UNIT = OSTURDAM_UNIT, BLOCK = OSTURDAM_BLOCK + 88, RECORDS = OSTURDAM_RECORDS + 64, BUFFER = OSTURDAM_REPLY + 80 };
 enum { LONGEST = 100000, MANY = 300, DEPTH = 1024, PAINT = 0x5A5A5A5A };
-enum line { END, BEGIN, POKE, LENT, VALID, FRESH, STRETCH, ELAPSED, WORD, PULSES, VALUE, STORE };
+enum line { END, BEGIN, POKE, LENT, VALID, FRESH, STRETCH, ELAPSED, WORD, PULSES, VALUE, STORE, CONTACT };
 
 /* A part of what a unit is lent, and what must stand there. Both begin as far behind a word, another one in each run. */
 struct region {
@@ -189,6 +189,7 @@ static void given(enum line line)
     case ELAPSED: given_value = value(); break;
     case WORD:
     case PULSES: number = character(), given_word = word(); break;
+    case CONTACT: number = character(), given_word = character(); break;
     case VALUE: number = character(), given_value = value(); break;
     case STORE:
         number = character(), event_number = character(), given_word = word();
@@ -206,6 +207,7 @@ static __attribute__((noinline)) int called(enum line line)
     case ELAPSED: return (int)osturdam_wait(&lent, given_value);
     case WORD: return (int)osturdam_take_word(&lent, number, given_word);
     case PULSES: return (int)osturdam_take_pulses(&lent, number, given_word);
+    case CONTACT: return (int)osturdam_take_contact(&lent, number, (uint8_t)given_word);
     case VALUE: return (int)osturdam_take_value(&lent, number, given_value);
     case STORE: return (int)osturdam_take_record(&lent, number, event_number, given_word > 0 ? values : NULL, given_word);
     case VALID: return osturdam_is_valid(&config);
@@ -272,7 +274,7 @@ static int call(enum line line)
 
 static int opened(void)
 {
-    static const char mark[] = "osturdam recording 3\n";
+    static const char mark[] = "osturdam recording 4\n";
     for (const char *p = mark; *p != 0; p++)
         if (character() != (uint8_t)*p)
             return failed("no recording of this kind; it differs at ", (uint32_t)(p - mark));
@@ -310,7 +312,7 @@ int replay(void)
         case BEGIN: begin(); break;
         case POKE: wrong = changes(1); break;
         case LENT: lend(); break;
-        default: wrong = line > STORE ? failed("the recording is not one of this program; it has line ", line) : call(line); break;
+        default: wrong = line > CONTACT ? failed("the recording is not one of this program; it has line ", line) : call(line); break;
         }
     }
     return wrong;

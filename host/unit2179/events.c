@@ -14,6 +14,11 @@ static unsigned set_word(const struct event *e, const struct osturdam_lent *l)
     return osturdam_take_word(l, (uint8_t)e->figures[0], (uint16_t)e->figures[1]);
 }
 
+static unsigned contact(const struct event *e, const struct osturdam_lent *l)
+{
+    return osturdam_take_contact(l, (uint8_t)e->figures[0], (uint8_t)e->figures[1]);
+}
+
 static unsigned pulses(const struct event *e, const struct osturdam_lent *l)
 {
     return osturdam_take_pulses(l, (uint8_t)e->figures[0], (uint16_t)e->figures[1]);
@@ -32,7 +37,7 @@ static unsigned store_record(const struct event *e, const struct osturdam_lent *
     return osturdam_take_record(l, (uint8_t)e->figures[0], (uint8_t)e->figures[1], values, e->many - 2);
 }
 
-enum { INPUT_MOST = OSTURDAM_INPUTS - 1, FILE_MOST = OSTURDAM_FILES - 1 };
+enum { INPUT_MOST = OSTURDAM_INPUTS - 1, CONTACT_MOST = 8 * OSTURDAM_GROUPS - 1, FILE_MOST = OSTURDAM_FILES - 1 };
 
 static const struct {
     const char *word, *takes;
@@ -41,6 +46,7 @@ static const struct {
     unsigned (*apply)(const struct event *e, const struct osturdam_lent *l);
 } kinds[] = {
     {"word", "an input, 0 to FFh, and a word, 0 to FFFFh", 2, 2, {INPUT_MOST, 0xFFFF, 0}, set_word},
+    {"contact", "a contact, 0 to 255, and its state, 0 or 1", 2, 2, {CONTACT_MOST, 0xFF, 0}, contact}, /* 8 is told of any other state */
     {"pulse", "an input, 0 to FFh, and a count, 0 to 65535", 2, 2, {INPUT_MOST, 0xFFFF, 0}, pulses},
     {"value", "a calculation, 0 to FFh, and a pattern of 32 bits", 2, 2, {INPUT_MOST, 0xFFFFFFFF, 0}, set_value},
     {"record",
@@ -107,7 +113,7 @@ static bool event_of(const struct place *at, char *line, struct event *event)
         complain(at, "%s takes %s", words[0], kinds[event->kind].takes);
         return false;
     }
-    complain(at, "'%s' is no event (word, pulse, value, record)", words[0]);
+    complain(at, "'%s' is no event (word, contact, pulse, value, record)", words[0]);
     return false;
 }
 

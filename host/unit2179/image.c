@@ -16,7 +16,7 @@
     PART(config.files, all.unit.config.files) PART(config.values, all.unit.config.values)                               \
     PART(config.oldest, all.unit.config.oldest) PART(numbers, all.unit.numbers) PART(words, all.unit.words)             \
     PART(results, all.unit.results) PART(fixed, all.unit.fixed) PART(counts, all.unit.counts)                           \
-    PART(dropped, all.unit.dropped) PART(block, all.block) PART(records, all.records)                                   \
+    PART(dropped, all.unit.dropped) PART(changed, all.unit.changed) PART(block, all.block) PART(records, all.records)   \
     PART(journal.history, history) PART(journal.entry, entry)
 /* clang-format on */
 

@@ -25,7 +25,7 @@ static void repack(struct osturdam_together *all)
 
 uint16_t older_layout(unsigned version)
 {
-    return version <= OLDER_SLOTS ? 1 : version <= OLDER_UNMARKED ? 2 : OSTURDAM_LAYOUT;
+    return version <= OLDER_SLOTS ? 1 : version <= OLDER_UNMARKED ? 2 : version <= OLDER_UNTOLD ? 3 : OSTURDAM_LAYOUT;
 }
 
 void older_bring(struct kept *kept, unsigned version)

@@ -95,6 +95,11 @@ pub extern "C" fn rust_set_word(u: &mut Unit, input: u8, word: u16) -> u8 {
 }
 
 #[no_mangle]
+pub extern "C" fn rust_contact(u: &mut Unit, contact: u8, state: u8) -> u8 {
+    independent::contact(&u.config, &mut u.state, &u.params, contact, state)
+}
+
+#[no_mangle]
 pub extern "C" fn rust_pulses(u: &mut Unit, input: u8, count: u16) -> u8 {
     independent::pulses(&u.config, &mut u.state, &u.params, input, count)
 }

@@ -22,6 +22,7 @@ use Rattle.board.proofs.osturdam_dropped.Reads as osturdam-dropped
 use Rattle.board.proofs.osturdam_fresh.Reads as osturdam-fresh
 use Rattle.board.proofs.osturdam_stretch.Reads as osturdam-stretch
 use Rattle.board.proofs.osturdam_elapsed.Reads as osturdam-elapsed
+use Rattle.board.proofs.osturdam_contact.Reads as osturdam-contact
 use Rattle.board.proofs.osturdam_set_word.Reads as osturdam-set-word
 use Rattle.board.proofs.osturdam_pulses.Reads as osturdam-pulses
 use Rattle.board.proofs.osturdam_set_value.Reads as osturdam-set-value
@@ -39,7 +40,7 @@ module _ (x y z : Owned) (long : length (x .unit) ≡ unitLong) (p : Characters 
         w .2,
       )
 
-  -- osturdam_elapsed, osturdam_set_word, osturdam_pulses, osturdam_set_value, osturdam_store_record
+  -- osturdam_elapsed, osturdam_set_word, osturdam_contact, osturdam_pulses, osturdam_set_value, osturdam_store_record
   pub one-saying : (e : Event) {n m : ℕ} → AnswerPromise e x y n → AnswerPromise e x z m → (n ≡ m) × (y ≡ z)
   one-saying e a b =
       let w = one-event e x y z long p q (a .tells) (b .tells) in (a .said ∙ ap answerNumber (w .0) ∙ sym (b .said), w .1)
@@ -96,6 +97,12 @@ one-osturdam-set-word κ a x y s t g h p q = one-saying _ _ _ (g .0) (g .1) (h .
 
 pub one-osturdam-set-word-unit : OneWhere (λ κ a s. (length (a .0 .now) ≡ unitLong) × Characters (s .0 .now)) osturdam-set-word.Post (λ κ r s. s .0 .now)
 one-osturdam-set-word-unit κ a x y s t g h p q = ap (λ (z : Owned). z .unit) (one-saying _ _ _ (g .0) (g .1) (h .1) _ p q .1)
+
+pub one-osturdam-contact : OneWhere (λ κ a s. (length (a .0 .now) ≡ unitLong) × Characters (s .0 .now)) osturdam-contact.Post (λ κ r s. r)
+one-osturdam-contact κ a x y s t g h p q = one-saying _ _ _ (g .0) (g .1) (h .1) _ p q .0
+
+pub one-osturdam-contact-unit : OneWhere (λ κ a s. (length (a .0 .now) ≡ unitLong) × Characters (s .0 .now)) osturdam-contact.Post (λ κ r s. s .0 .now)
+one-osturdam-contact-unit κ a x y s t g h p q = ap (λ (z : Owned). z .unit) (one-saying _ _ _ (g .0) (g .1) (h .1) _ p q .1)
 
 pub one-osturdam-pulses : OneWhere (λ κ a s. (length (a .0 .now) ≡ unitLong) × Characters (s .0 .now)) osturdam-pulses.Post (λ κ r s. r)
 one-osturdam-pulses κ a x y s t g h p q = one-saying _ _ _ (g .0) (g .1) (h .1) _ p q .0

@@ -10,6 +10,7 @@ use frames::outcomes::number;
 use layout::CONFIG;
 use layout::CURRENT;
 use layout::UNIT;
+use model::Contact;
 use model::File;
 use model::Input;
 use model::SpecialCalculation;
@@ -18,7 +19,7 @@ ghost use mathlib.Core.Bool.{cond};
 ghost use lib.ListN.{length, getD};
 ghost use Rattle.checkword.specs.Check.{checkFrom};
 ghost use Rattle.model.specs.Config.{validOf};
-ghost use Rattle.model.specs.Event.{elapsed, setWord, setValue, pulses, store, local};
+ghost use Rattle.model.specs.Event.{elapsed, setWord, setValue, pulses, store, contact, local};
 ghost use Rattle.layout.specs.Unit.{layoutNumber, unitIn, configGiven};
 ghost use Rattle.layout.specs.Records.{roomOf};
 ghost use Rattle.layout.specs.Kept.{ownedOf};
@@ -135,6 +136,23 @@ pub extern "C" fn osturdam_set_word<'a>(
         (ownedOf (now (unit .exit)) (now (block .entry)) (now (records .entry))) r ⌝ }
 {
     let outcome = unit::set_word(unit, block, records, Input(input), word);
+    number(outcome)
+}
+
+// The state of one contact, 0 or 1; 8 for any other state, and for a contact whose group is not equipped.
+#[no_mangle]
+pub extern "C" fn osturdam_contact<'a>(
+    unit: &mut [u8; UNIT],
+    block: &'a [u8],
+    records: &'a [u8],
+    which: u8,
+    state: u8,
+) -> u8
+    ensures { λ r. ⌜ AnswerPromise (local (contact (record { 0 = which }) state))
+        (ownedOf (now (unit .entry)) (now (block .entry)) (now (records .entry)))
+        (ownedOf (now (unit .exit)) (now (block .entry)) (now (records .entry))) r ⌝ }
+{
+    let outcome = unit::contact(unit, block, records, Contact(which), state);
     number(outcome)
 }
 

@@ -1,4 +1,4 @@
-// Function 00: the words of the equipped inputs of the chosen kinds.
+// Function 00: the words of the equipped inputs of the chosen kinds, and the groups of contacts that its reply carried.
 use layout::UNIT;
 use layout::has_input;
 use layout::word_of;
@@ -13,12 +13,14 @@ ghost use mathlib.Core.List.{[]};
 ghost use mathlib.Core.Bool.{cond};
 ghost use Prim.Native.Nat.{_+_, _*_, _≤_};
 ghost use lib.ListN.{length};
-ghost use Rattle.chars.specs.Gather.{Gathered, upFrom};
+ghost use Rattle.chars.specs.Gather.{Gathered, gather, upFrom};
 ghost use Rattle.model.specs.Limits.{replyHead, longestReply};
 ghost use Rattle.model.specs.Frame.{asked};
 ghost use Rattle.model.specs.Scan.{Fills, inRoom};
 ghost use Rattle.model.specs.Inputs.{unreserved, chosen, wordOf, inputsOf};
+ghost use Rattle.model.specs.Contacts.{groupIn};
 ghost use Rattle.layout.specs.Unit.{unitIn, configIn};
+ghost use Rattle.layout.specs.Contacts.{Anew};
 
 // The words of the equipped ones of the n inputs from number from on go to reply from index at on; where the next goes.
 fn run(unit: &[u8; UNIT], from: usize, n: usize, reply: &mut [u8], at: usize) -> usize
@@ -97,5 +99,27 @@ pub fn scan<'a>(unit: &'a [u8; UNIT], frame: Frame, body: &'a [u8], reply: &mut 
         }
     } else {
         refused(Outcome::Unknown)
+    }
+}
+
+// ---- once its reply is made
+
+fn groups_anew(unit: &mut [u8; UNIT])
+    ensures { λ _. ⌜ Anew (now (unit .entry)) (now (unit .exit)) (gather (groupIn (configIn (now (unit .entry)) .inputs)) (upFrom 0 32)) ⌝ }
+{
+    for k in 0..32 {
+        points::start_anew(unit, Input(k));
+    }
+}
+
+// The groups that a reply to this command carried start anew; mostly none has anything to clear.
+pub fn start_anew(unit: &mut [u8; UNIT], command: u8)
+    ensures { λ _. ⌜ Anew (now (unit .entry)) (now (unit .exit)) (gather (groupIn (configIn (now (unit .entry)) .inputs)) (chosen command)) ⌝ }
+{
+    if command / 4 % 2 == 1 {
+        if layout::all_told(unit) {
+            return;
+        }
+        groups_anew(unit);
     }
 }

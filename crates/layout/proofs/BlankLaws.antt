@@ -32,6 +32,7 @@ use Rattle.layout.specs.Unit.{
   fixedRegion,
   countsRegion,
   droppedRegion,
+  changedRegion,
   wordsIn,
   resultsIn,
   configFrom,
@@ -149,4 +150,5 @@ module _ (cs : List ℕ) (long : length cs ≡ configLong) where
         fixed = back fixedRegion (lit< tt) refl refl (lit≤ tt) (lit≤ tt) i;
         counts = back countsRegion (lit< tt) refl refl (lit≤ tt) (lit≤ tt) i;
         dropped = (ap wordsIn (back droppedRegion (lit< tt) refl refl (lit≤ tt) (lit≤ tt)) ∙ zero-words 32) i;
+        changed = back changedRegion (lit< tt) refl refl (lit≤ tt) (lit≤ tt) i;
       }

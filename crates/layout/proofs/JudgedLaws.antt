@@ -57,15 +57,15 @@ every-end : (f : ℕ → Bool) (ns : List ℕ) (n : ℕ) → every f (ns ++ (n �
 unfolding every
 every-end f ns n = every-append f ns (n ∷ []) ∙ ap (λ (b : Bool). every f ns && b) (and-true (f n))
 
-every-start : (f : ℕ → Bool) → true ≡ every f (upFrom 0 0)
+pub every-start : (f : ℕ → Bool) → true ≡ every f (upFrom 0 0)
 unfolding every
 every-start f = rw up-none
 
-every-next : (f : ℕ → Bool) (i : ℕ) → every f (upFrom 0 (i + 1)) ≡ (every f (upFrom 0 i) && f i)
+pub every-next : (f : ℕ → Bool) (i : ℕ) → every f (upFrom 0 (i + 1)) ≡ (every f (upFrom 0 i) && f i)
 every-next f i = let e : 0 + i ≡ i = omega arith in rw up-more (every-end f (upFrom 0 i) (0 + i) ∙ rw e)
 
 -- numbers joined by or are 0 where both are
-or-none : (a b : ℕ) → eqb (bitOr a b) 0 ≡ (eqb a 0 && eqb b 0)
+pub or-none : (a b : ℕ) → eqb (bitOr a b) 0 ≡ (eqb a 0 && eqb b 0)
 or-none zero b = rw or-zero-l
 or-none (suc a) b =
     let e : bitOr (suc a) b ≡ 0 → ⊥ = λ q. omega (arith, or-add-and (suc a) b, and-le-r (suc a) b) in

@@ -8,6 +8,7 @@ pub mod PlaceLaws
 pub mod KeepLaws
 pub mod RangeLaws
 pub mod JudgedLaws
+pub mod ContactLaws
 pub mod MemoryLaws
 pub mod TableLaws
 pub mod RecordsLaws

@@ -22,6 +22,9 @@ use Rattle.layout.proofs.files.put_count.Reads as put-count
 use Rattle.layout.proofs.files.keeps_oldest.Reads as keeps-oldest
 use Rattle.layout.proofs.files.dropped_of.Reads as dropped-of
 use Rattle.layout.proofs.files.put_dropped.Reads as put-dropped
+use Rattle.layout.proofs.contacts.changed_of.Reads as changed-of
+use Rattle.layout.proofs.contacts.put_changed.Reads as put-changed
+use Rattle.layout.proofs.contacts.all_told.Reads as all-told
 use Rattle.layout.proofs.judged.fits.Reads as fits
 use Rattle.layout.proofs.told.Reads as told
 use Rattle.layout.proofs.memory.dump_most.Reads as dump-most
@@ -119,6 +122,15 @@ one-dropped-of κ a x y s t p q = p ∙ sym q
 
 pub one-put-dropped-unit : One put-dropped.Post (λ κ r s. s .0 .now)
 one-put-dropped-unit κ a x y s t p q = p ∙ sym q
+
+pub one-changed-of : One changed-of.Post (λ κ r s. r)
+one-changed-of κ a x y s t p q = p ∙ sym q
+
+pub one-put-changed-unit : One put-changed.Post (λ κ r s. s .0 .now)
+one-put-changed-unit κ a x y s t p q = p ∙ sym q
+
+pub one-all-told : One all-told.Post (λ κ r s. r)
+one-all-told κ a x y s t p q = p ∙ sym q
 
 pub one-fits : One fits.Post (λ κ r s. r)
 one-fits κ a x y s t p q = p ∙ sym q

@@ -14,12 +14,12 @@ use Rattle.chars.proofs.PutLaws.{length-put, put-none, put-one}
 use Rattle.chars.proofs.WordLaws.{length-word, length-value}
 use Rattle.model.specs.Config.{Config}
 use Rattle.layout.specs.Regions.{startIn, regionIn, setAt}
-use Rattle.layout.specs.Unit.{Unit, Renumbered, NumbersOnly, numbersIn, unitSizes, unitLong, regionStart, layoutRegion, numberRegion, lengthRegion, inputsRegion, outputsRegion, calculationsRegion, filesRegion, valuesRegion, oldestRegion, numbersRegion, wordsRegion, resultsRegion, fixedRegion, countsRegion, droppedRegion, wordsIn, resultsIn, configFrom, unitFrom, unitIn, configIn, setNumbers, setWords, setValues, setFixed, setCounts, setDropped, putIn, putNumber, putWord, putValue, putFixed, putCount, putCounts, putDropped}
+use Rattle.layout.specs.Unit.{Unit, Renumbered, NumbersOnly, numbersIn, unitSizes, unitLong, regionStart, layoutRegion, numberRegion, lengthRegion, inputsRegion, outputsRegion, calculationsRegion, filesRegion, valuesRegion, oldestRegion, numbersRegion, wordsRegion, resultsRegion, fixedRegion, countsRegion, droppedRegion, changedRegion, wordsIn, resultsIn, configFrom, unitFrom, unitIn, configIn, setNumbers, setWords, setValues, setFixed, setCounts, setDropped, setChanged, putIn, putNumber, putWord, putValue, putFixed, putCount, putCounts, putDropped, putChanged}
 use Rattle.layout.proofs.RegionLaws.{regions-put, region-whole, region-at, region-past, region-part, region-own, region-most}
 
 -- how long a lent unit is: UNIT of src/lib.rt, as the prover tells the length of an array
 abbrev pub unitFigure : ℕ
-unitFigure = 2570
+unitFigure = 2602
 
 -- and a configuration: CONFIG
 abbrev pub configFigure : ℕ
@@ -84,6 +84,10 @@ module _ (r : ℕ → List ℕ) (x : List ℕ) where
   unit-dropped : unitFrom (setAt r droppedRegion x) ≡ setDropped (unitFrom r) (wordsIn x)
   unfolding unitFrom configFrom setAt
   unit-dropped = refl
+
+  unit-changed : unitFrom (setAt r changedRegion x) ≡ setChanged (unitFrom r) x
+  unfolding unitFrom configFrom setAt
+  unit-changed = refl
 
 -- how long each region is
 sizes : (getD unitSizes wordsRegion 0 ≡ 512) × (getD unitSizes resultsRegion 0 ≡ 512) × (getD unitSizes fixedRegion 0 ≡ 528) × (getD unitSizes countsRegion 0 ≡ 32)
@@ -198,6 +202,10 @@ pub count-written : (u : List ℕ) (f n : ℕ) → f < 32 → unitIn (putCount u
 unfolding unitSizes unitFrom
 count-written u f n h = unit-put u countsRegion f (n ∷ []) (omega arith) ∙ unit-counts _ _ ∙ ap (setCounts (unitIn u)) (put-one _ f n)
 
+pub changed-written : (u : List ℕ) (g b : ℕ) → g < 32 → unitIn (putChanged u g b) ≡ setChanged (unitIn u) (set (unitIn u .changed) g b)
+unfolding unitSizes unitFrom
+changed-written u g b h = unit-put u changedRegion g (b ∷ []) (omega arith) ∙ unit-changed _ _ ∙ ap (setChanged (unitIn u)) (put-one _ g b)
+
 -- ---- what is read from where
 
 region-word : (u : List ℕ) (k i : ℕ) → i + 2 ≤ getD unitSizes k 0 → wordAt (regionIn unitSizes u k) i ≡ wordAt u (regionStart k + i)
@@ -256,6 +264,16 @@ module _ (u : List ℕ) (f : ℕ) (h : f < 32) where
   pub dropped-at : getD (unitIn u .dropped) f 0 ≡ wordAt u (regionStart droppedRegion + 2 * f)
   unfolding unitFrom unitSizes
   dropped-at = words-at (regionIn unitSizes u droppedRegion) f ∙ region-word u droppedRegion (2 * f) (omega arith)
+
+module _ (u : List ℕ) (g : ℕ) where
+  pub changed-at : g < 32 → getD (unitIn u .changed) g 0 ≡ getD u (regionStart changedRegion + g) 0
+  unfolding unitFrom unitSizes
+  changed-at h = region-at unitSizes u changedRegion g h
+
+  -- no group is numbered 32 or over
+  pub changed-past : 32 ≤ g → getD (unitIn u .changed) g 0 ≡ 0
+  unfolding unitFrom unitSizes
+  changed-past h = region-past unitSizes u changedRegion g h
 
 pub kept-at : (u : List ℕ) (i : ℕ) → i < 26 → getD (unitIn u .numbers) i 0 ≡ wordAt u (regionStart numbersRegion + 2 * i)
 unfolding unitFrom unitSizes

@@ -116,7 +116,8 @@ module _ (u v : List ℕ) (l : length u ≡ unitLong) (m : length v ≡ unitLong
   region-one (suc (suc (suc (suc (suc (suc (suc (suc (suc (suc (suc (suc zero)))))))))))) = ap (λ (x : Unit). x .fixed) e
   region-one (suc (suc (suc (suc (suc (suc (suc (suc (suc (suc (suc (suc (suc zero))))))))))))) = ap (λ (x : Unit). x .counts) e
   region-one (suc (suc (suc (suc (suc (suc (suc (suc (suc (suc (suc (suc (suc (suc zero)))))))))))))) = words-one _ _ (long-u 14 (lit< tt) ∙ sym (long-v 14 (lit< tt))) (chars-u 14) (chars-v 14) (ap (λ (x : Unit). x .dropped) e)
-  region-one (suc (suc (suc (suc (suc (suc (suc (suc (suc (suc (suc (suc (suc (suc (suc j))))))))))))))) = refl
+  region-one (suc (suc (suc (suc (suc (suc (suc (suc (suc (suc (suc (suc (suc (suc (suc zero))))))))))))))) = ap (λ (x : Unit). x .changed) e
+  region-one (suc (suc (suc (suc (suc (suc (suc (suc (suc (suc (suc (suc (suc (suc (suc (suc j)))))))))))))))) = refl
 
   pub unit-one : u ≡ v
   unit-one = regions-one unitSizes u v l m region-one

@@ -47,7 +47,7 @@ keptBy lent counts core memory port =
     record {
       inner = record {
         core = core;
-        areas = record { words = []; values = []; fixed = []; block = replicate lent 0 };
+        areas = record { words = []; values = []; fixed = []; block = replicate lent 0; changed = [] };
         history = record { memory = memory; files = filesBy counts; dropped = [] };
       };
       port = port;

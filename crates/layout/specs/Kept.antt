@@ -25,9 +25,10 @@ pub record Kept : Type 0 where
   pub area : List ℕ
   pub counts : List ℕ
   pub dropped : List ℕ
+  pub changed : List ℕ
 
-abbrev pub keptOf : Core → Memory → Port → List ℕ → List ℕ → List ℕ → List ℕ → List ℕ → List ℕ → List ℕ → Kept
-keptOf core memory port words results fixed block area counts dropped =
+abbrev pub keptOf : Core → Memory → Port → List ℕ → List ℕ → List ℕ → List ℕ → List ℕ → List ℕ → List ℕ → List ℕ → Kept
+keptOf core memory port words results fixed block area counts dropped changed =
     record {
       core = core;
       memory = memory;
@@ -39,10 +40,11 @@ keptOf core memory port words results fixed block area counts dropped =
       area = area;
       counts = counts;
       dropped = dropped;
+      changed = changed;
     }
 
-abbrev pub areasOf : List ℕ → List ℕ → List ℕ → List ℕ → Areas
-areasOf words results fixed block = record { words = words; values = results; fixed = fixed; block = block }
+abbrev pub areasOf : List ℕ → List ℕ → List ℕ → List ℕ → List ℕ → Areas
+areasOf words results fixed block changed = record { words = words; values = results; fixed = fixed; block = block; changed = changed }
 
 abbrev pub innerOf : Core → Areas → Memory → Files → List ℕ → Inner
 innerOf core areas memory fs dropped = record { core = core; areas = areas; history = record { memory = memory; files = fs; dropped = dropped } }
@@ -51,7 +53,7 @@ innerOf core areas memory fs dropped = record { core = core; areas = areas; hist
 abbrev pub stateLaid : Layout → Config → Kept → State
 stateLaid l c k =
     record {
-      inner = innerOf (k .core) (areasOf (k .words) (k .results) (k .fixed) (k .block)) (k .memory) (filesLaid l (c .values) (k .area) (k .counts)) (k .dropped);
+      inner = innerOf (k .core) (areasOf (k .words) (k .results) (k .fixed) (k .block) (k .changed)) (k .memory) (filesLaid l (c .values) (k .area) (k .counts)) (k .dropped);
       port = k .port;
     }
 
@@ -62,7 +64,7 @@ stateOf c k = stateLaid (packed c) c k
 
 -- the areas of a unit's memory and its parameter block
 abbrev pub areasBy : Unit → List ℕ → Areas
-areasBy x block = areasOf (x .words) (x .values) (x .fixed) block
+areasBy x block = areasOf (x .words) (x .values) (x .fixed) block (x .changed)
 
 abbrev pub areasIn : List ℕ → List ℕ → Areas
 areasIn u block = areasBy (unitIn u) block
@@ -93,7 +95,7 @@ ownedOf unit block area = record { unit = unit; block = block; area = area }
 
 -- the unit that it means
 abbrev pub keptBy : Core → Memory → Port → Unit → List ℕ → List ℕ → Kept
-keptBy core memory port x block area = keptOf core memory port (x .words) (x .values) (x .fixed) block area (x .counts) (x .dropped)
+keptBy core memory port x block area = keptOf core memory port (x .words) (x .values) (x .fixed) block area (x .counts) (x .dropped) (x .changed)
 
 abbrev pub keptIn : Owned → Kept
 keptIn x =

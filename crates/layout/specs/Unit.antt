@@ -19,9 +19,9 @@ abbrev pub configSizes : List ℕ
 configSizes = 2 ∷ 2 ∷ 256 ∷ 256 ∷ 256 ∷ 32 ∷ 32 ∷ 32 ∷ []
 
 -- what a unit keeps: the numbers of clock, select, write, status, latest history reply and port, the input words, the calculation
--- values, the fixed blocks, the record counts, the numbers of dropped records
+-- values, the fixed blocks, the record counts, the numbers of dropped records, the contacts that changed
 abbrev pub keptSizes : List ℕ
-keptSizes = 52 ∷ 512 ∷ 512 ∷ 528 ∷ 32 ∷ 64 ∷ []
+keptSizes = 52 ∷ 512 ∷ 512 ∷ 528 ∷ 32 ∷ 64 ∷ 32 ∷ []
 
 -- first the number of this layout, so that a memory of another is never misread
 unfoldable pub unitSizes : List ℕ
@@ -72,6 +72,9 @@ countsRegion = 13
 abbrev pub droppedRegion : ℕ
 droppedRegion = 14
 
+abbrev pub changedRegion : ℕ
+changedRegion = 15
+
 -- where a region of a unit starts
 abbrev pub regionStart : ℕ → ℕ
 regionStart k = startIn unitSizes k
@@ -86,7 +89,7 @@ configLong = startIn configSizes (length configSizes)
 
 -- the number of this layout
 abbrev pub layoutNumber : ℕ
-layoutNumber = 3
+layoutNumber = 4
 
 unfoldable pub placesOf : Places
 placesOf =
@@ -106,6 +109,7 @@ placesOf =
       fixed = regionStart fixedRegion;
       counts = regionStart countsRegion;
       dropped = regionStart droppedRegion;
+      changed = regionStart changedRegion;
       config = configLong;
       unit = unitLong;
       current = layoutNumber;
@@ -138,6 +142,7 @@ pub record Unit : Type 0 where
   pub fixed : List ℕ
   pub counts : List ℕ
   pub dropped : List ℕ
+  pub changed : List ℕ
 
 unfoldable pub configFrom : (ℕ → List ℕ) → Config
 configFrom r =
@@ -163,6 +168,7 @@ unitFrom r =
       fixed = r fixedRegion;
       counts = r countsRegion;
       dropped = wordsIn (r droppedRegion);
+      changed = r changedRegion;
     }
 
 abbrev pub unitIn : List ℕ → Unit
@@ -174,23 +180,31 @@ configIn u = unitIn u .config
 -- ---- a part anew
 
 abbrev pub setNumbers : Unit → List ℕ → Unit
-setNumbers x ks = record { layout = x .layout; config = x .config; numbers = ks; words = x .words; values = x .values; fixed = x .fixed; counts = x .counts; dropped = x .dropped }
+setNumbers x ks = record { layout = x .layout; config = x .config; numbers = ks; words = x .words; values = x .values; fixed = x .fixed; counts = x .counts; dropped = x .dropped; changed = x .changed }
 
 abbrev pub setWords : Unit → List ℕ → Unit
-setWords x ws = record { layout = x .layout; config = x .config; numbers = x .numbers; words = ws; values = x .values; fixed = x .fixed; counts = x .counts; dropped = x .dropped }
+setWords x ws = record { layout = x .layout; config = x .config; numbers = x .numbers; words = ws; values = x .values; fixed = x .fixed; counts = x .counts; dropped = x .dropped; changed = x .changed }
 
 abbrev pub setValues : Unit → List ℕ → Unit
-setValues x vs = record { layout = x .layout; config = x .config; numbers = x .numbers; words = x .words; values = vs; fixed = x .fixed; counts = x .counts; dropped = x .dropped }
+setValues x vs = record { layout = x .layout; config = x .config; numbers = x .numbers; words = x .words; values = vs; fixed = x .fixed; counts = x .counts; dropped = x .dropped; changed = x .changed }
 
 abbrev pub setFixed : Unit → List ℕ → Unit
-setFixed x fs = record { layout = x .layout; config = x .config; numbers = x .numbers; words = x .words; values = x .values; fixed = fs; counts = x .counts; dropped = x .dropped }
+setFixed x fs = record { layout = x .layout; config = x .config; numbers = x .numbers; words = x .words; values = x .values; fixed = fs; counts = x .counts; dropped = x .dropped; changed = x .changed }
 
 abbrev pub setCounts : Unit → List ℕ → Unit
-setCounts x ns = record { layout = x .layout; config = x .config; numbers = x .numbers; words = x .words; values = x .values; fixed = x .fixed; counts = ns; dropped = x .dropped }
+setCounts x ns = record { layout = x .layout; config = x .config; numbers = x .numbers; words = x .words; values = x .values; fixed = x .fixed; counts = ns; dropped = x .dropped; changed = x .changed }
 
 abbrev pub setDropped : Unit → List ℕ → Unit
 setDropped x ns =
-    record { layout = x .layout; config = x .config; numbers = x .numbers; words = x .words; values = x .values; fixed = x .fixed; counts = x .counts; dropped = ns }
+    record { layout = x .layout; config = x .config; numbers = x .numbers; words = x .words; values = x .values; fixed = x .fixed; counts = x .counts; dropped = ns; changed = x .changed }
+
+abbrev pub setChanged : Unit → List ℕ → Unit
+setChanged x bs =
+    record { layout = x .layout; config = x .config; numbers = x .numbers; words = x .words; values = x .values; fixed = x .fixed; counts = x .counts; dropped = x .dropped; changed = bs }
+
+-- the words and the contacts that changed
+abbrev pub setContacts : Unit → List ℕ → List ℕ → Unit
+setContacts x ws bs = setChanged (setWords x ws) bs
 
 -- ---- characters written into a region, every other left; nothing, where they would not lie in it
 
@@ -219,6 +233,9 @@ putCounts u ns = putIn u countsRegion 0 ns
 
 abbrev pub putDropped : List ℕ → ℕ → ℕ → List ℕ
 putDropped u f n = putIn u droppedRegion (2 * f) (word n)
+
+abbrev pub putChanged : List ℕ → ℕ → ℕ → List ℕ
+putChanged u g b = putIn u changedRegion g (b ∷ [])
 
 -- the kept numbers
 abbrev pub numbersIn : List ℕ → List ℕ
@@ -263,4 +280,5 @@ blankOf c =
       fixed = replicate 528 0;
       counts = replicate 32 0;
       dropped = replicate 32 0;
+      changed = replicate 32 0;
     }

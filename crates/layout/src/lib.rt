@@ -1,6 +1,7 @@
 // Where everything lies in a unit's memory: the one table of places, and each part read, written and judged there.
 mod clock;
 mod config;
+mod contacts;
 mod core;
 mod equipment;
 mod files;
@@ -19,6 +20,9 @@ pub use clock::keep_clock;
 pub use config::begin;
 pub use config::equip_input;
 pub use config::name_unit;
+pub use contacts::all_told;
+pub use contacts::changed_of;
+pub use contacts::put_changed;
 pub use core::core_in;
 pub use core::keep_core;
 pub use equipment::has_calculation;
@@ -66,7 +70,7 @@ ghost use Rattle.layout.specs.Unit.{placesOf};
 // The number of this layout.
 const LAYOUT: usize = 0;
 
-pub const CURRENT: u16 = 3;
+pub const CURRENT: u16 = 4;
 
 // The configuration.
 const NUMBER: usize = LAYOUT + 2;
@@ -87,7 +91,7 @@ const OLDEST: usize = VALUES + 32;
 
 pub const CONFIG: usize = OLDEST + 32 - NUMBER;
 
-// What the unit keeps: 26 numbers, then points, blocks, counts and numbers dropped.
+// What the unit keeps: 26 numbers, then points, blocks, counts, numbers dropped and contacts that changed.
 const NUMBERS: usize = NUMBER + CONFIG;
 
 const WORDS: usize = NUMBERS + 52;
@@ -100,7 +104,9 @@ const COUNTS: usize = FIXED + 528;
 
 const DROPPED: usize = COUNTS + 32;
 
-pub const UNIT: usize = DROPPED + 64;
+const CHANGED: usize = DROPPED + 64;
+
+pub const UNIT: usize = CHANGED + 32;
 
 // Where the regions start, how long a configuration and how long a unit is.
 pub struct Places {
@@ -119,6 +125,7 @@ pub struct Places {
     pub fixed: usize,
     pub counts: usize,
     pub dropped: usize,
+    pub changed: usize,
     pub config: usize,
     pub unit: usize,
     pub current: u16,
@@ -144,6 +151,7 @@ pub fn told() -> Places
         fixed: FIXED,
         counts: COUNTS,
         dropped: DROPPED,
+        changed: CHANGED,
         config: CONFIG,
         unit: UNIT,
         current: CURRENT,

@@ -1,18 +1,19 @@
 -- Nothing changes the lengths of the areas. Assumes nothing.
-use Prim.Native.Nat.{ℕ, _+_}
-use mathlib.Core.Path.{_≡_, refl}
-use mathlib.Core.List.{List}
-use mathlib.Core.Bool.{not, _&&_}
+use Prim.Native.Nat.{ℕ, _+_, _/_}
+use mathlib.Core.Path.{_≡_, refl, _∙_}
+use mathlib.Core.List.{List, [], _∷_}
+use mathlib.Core.Bool.{_&&_}
 use lib.ListN.{length, getD, length-set}
-use lib.Dec.{eqb}
+use lib.Dec.{eqb, ltb}
 use Rattle.chars.proofs.PutLaws.{length-put}
 use Rattle.model.specs.Limits.{mostAsked}
 use Rattle.model.specs.Frame.{Request, masterOf}
-use Rattle.model.specs.Config.{has, within, accumulator, hasCalculation}
+use Rattle.model.specs.Config.{has, within, hasCalculation}
 use Rattle.model.specs.State.{Areas}
 use Rattle.model.specs.Scan.{counts}
-use Rattle.model.specs.Inputs.{Changed, hasAccumulator, setWordOf, pulsesOf, resetCountOf}
+use Rattle.model.specs.Inputs.{Changed, settable, hasAccumulator, setWordOf, pulsesOf, resetCountOf}
 use Rattle.model.specs.Calculations.{setValueOf}
+use Rattle.model.specs.Contacts.{Contacted, contactOf, anew}
 use Rattle.model.specs.Control.{isOf}
 use Rattle.model.specs.Blocks.{Executed, ordinalStart, notExecuted, reaches, executes, executeWhen, executeOf}
 use Rattle.model.specs.declared.Outcome.{Outcome}
@@ -25,6 +26,7 @@ pub record SameLengths (a b : Areas) : Type 0 where
   pub values : length (b .values) ≡ length (a .values)
   pub fixed : length (b .fixed) ≡ length (a .fixed)
   pub block : length (b .block) ≡ length (a .block)
+  pub changed : length (b .changed) ≡ length (a .changed)
 
 -- ---- one area
 
@@ -34,7 +36,7 @@ Long xs r = length (r .area) ≡ length xs
 module _ (table xs : List ℕ) where
   pub setWord-long : (n w : ℕ) → length (setWordOf table xs n w .area) ≡ length xs
   unfolding Long setWordOf
-  setWord-long n w = by-cond (Long xs) (has table n && not (accumulator n)) (λ e. length-set xs n w) (λ e. refl)
+  setWord-long n w = by-cond (Long xs) (has table n && settable n) (λ e. length-set xs n w) (λ e. refl)
 
   pub pulses-long : (n p : ℕ) → length (pulsesOf table xs n p .area) ≡ length xs
   unfolding Long pulsesOf
@@ -50,6 +52,23 @@ module _ (table xs : List ℕ) where
   pub setValue-long : (n v : ℕ) → length (setValueOf table xs n v .area) ≡ length xs
   unfolding Long setValueOf
   setValue-long n v = by-cond (Long xs) (hasCalculation table n) (λ e. length-set xs n v) (λ e. refl)
+
+-- ---- contacts
+
+pub record ContactsLong (ws cs : List ℕ) (r : Contacted) : Type 0 where
+  pub words : length (r .words) ≡ length ws
+  pub changed : length (r .changed) ≡ length cs
+
+pub contact-long : (table ws cs : List ℕ) (n s : ℕ) → ContactsLong ws cs (contactOf table ws cs n s)
+unfolding contactOf
+contact-long table ws cs n s =
+    by-cond (ContactsLong ws cs) (has table (n / 8) && ltb s 2) (λ e. record { words = length-set ws _ _; changed = length-set cs _ _ })
+    (λ e. record { words = refl; changed = refl })
+
+pub anew-long : (f : ℕ → ℕ) (gs xs : List ℕ) → length (anew f gs xs) ≡ length xs
+unfolding anew
+anew-long f [] xs = refl
+anew-long f (g ∷ gs) xs = anew-long f gs _ ∙ length-set xs g _
 
 -- ---- the two areas of EXECUTE
 

@@ -12,7 +12,7 @@ use Rattle.chars.specs.Gather.{gather, upFrom, every}
 use Rattle.checkword.specs.Check.{bitStep, bitSteps, charStep, checkFrom, checkOf}
 use Rattle.model.specs.Frame.{unitOf, masterOf, whole, checked, frameIn, commands, paired, heardOf, requestIn, withCheck, frameChars, headChars, replyChars}
 use Rattle.model.specs.Outcome.{damaged, replyFunction, answerNumber}
-use Rattle.model.specs.Config.{Config, has, within, accumulator, noneIn, fileValid, validOf, hasFile, keepsOldest, hasCalculation, sizeOf}
+use Rattle.model.specs.Config.{Config, has, within, twoBit, accumulator, noneIn, fileValid, validOf, hasFile, keepsOldest, hasCalculation, sizeOf}
 use Rattle.model.specs.State.{
   Areas,
   History,
@@ -30,6 +30,7 @@ use Rattle.model.specs.State.{
 use Rattle.model.specs.Change.{applied, droppedAfter, addedBy, changedBy}
 use Rattle.model.specs.Scan.{counts, withNoData}
 use Rattle.model.specs.Inputs.{unreserved, chosen, wordOf, inputsOf, hasAccumulator, pulsesOf}
+use Rattle.model.specs.Contacts.{asksFor, groupIn, groupsCarried, anew, unmarked, untallied, areasAnew}
 use Rattle.model.specs.Control.{isOf, takes, selectWhen, operateWhen, selectOf, controlOf, operates, breaks, heldAfter}
 use Rattle.model.specs.Blocks.{known, ordinalStart, blockOf, reaches, waitsFor, writeWhen, writeOf, notExecuted, executes, executeWhen, executeOf, dropped, waitsAfter}
 use Rattle.model.specs.Clock.{bcd, fromBcd, digits, clockFits, timeIn, digitsFit, timeFits, setTimeOf, timeOf, clockAt, clockAfter}
@@ -83,6 +84,7 @@ use Rattle.model.specs.Step.{
   telling,
   internalStep,
   stepOf,
+  areasLeft,
   served,
   framed,
   broadcastOf,
@@ -328,6 +330,6 @@ unfolding
     acknowledges dumps fileOf flat historyChars freedFor mostOf toldFrom tellOf historyOf recordChars keepsOldest sparedIn fullAs storedWhen storedAs
     masterFits holdFits writeFits coreFits givable replyFits memoryFits fileFits historyFits areasFit portFits fits
     controlled timed written executed scanned internalOf otherOf statusOf sentAs answered quiet settled finished alone telling internalStep stepOf
-    served framed broadcastOf broadcastMade followed judged brokenOff coreAfter elapsedMade localMade wordMade notedIn storeMade localOf makeOf
+    areasLeft areasAnew groupsCarried asksFor groupIn anew unmarked untallied twoBit served framed broadcastOf broadcastMade followed judged brokenOff coreAfter elapsedMade localMade wordMade notedIn storeMade localOf makeOf
     markNumber portStatus sentChars markAfter silentAfter portHeard portAfter short turnedAway shows moves decided resultOf nextOf afterFrom
 cases = record { numbered = refl; met = refl; pairs = refl }

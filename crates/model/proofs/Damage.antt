@@ -18,7 +18,7 @@ use Rattle.model.specs.Config.{Config, validOf}
 use Rattle.model.specs.State.{Inner, State, freshPort, freshOf}
 use Rattle.model.specs.Fits.{portFits, fits}
 use Rattle.model.specs.Event.{Stretch, Event, stretch}
-use Rattle.model.specs.Step.{Sent, silent, said, Made, quiet, finished, stepOf, judged, makeOf}
+use Rattle.model.specs.Step.{Sent, silent, said, Made, quiet, finished, stepOf, startedAnew, judged, makeOf}
 use Rattle.model.specs.Port.{portStatus, sentChars}
 use Rattle.model.specs.Run.{short, Result, turnedAway, shows, moves, decided, resultOf, nextOf, Entry, entryOf, afterFrom, traceFrom, after}
 use Rattle.model.specs.Formed.{AllGiven}
@@ -240,7 +240,7 @@ module _ (c : Config) (xs : List Event) (t : Stretch) {s : List ℕ} {w x : Fram
   left-heard : heardOf (t .chars) ≡ Whole w
   left-heard = rw e (whole-heard (take writeFrame s) w (p .write))
 
-  left-made : (i : Inner) → unitOf (w .address) ≡ c .unit → makeOf c i (stretch t) ≡ finished i (requestIn w (take writeFrame s)) (stepOf c i (t .lag) (requestIn w (take writeFrame s)))
+  left-made : (i : Inner) → unitOf (w .address) ≡ c .unit → makeOf c i (stretch t) ≡ startedAnew c (requestIn w (take writeFrame s)) (finished i (requestIn w (take writeFrame s)) (stepOf c i (t .lag) (requestIn w (take writeFrame s))))
   unfolding makeOf judged requestIn
   left-made i own = rw (left-heard, e) (framed-own c i (t .lag) (requestIn w (take writeFrame s)) own)
 

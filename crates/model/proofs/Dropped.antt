@@ -51,6 +51,7 @@ use Rattle.model.specs.Fits.{
 }
 use Rattle.model.specs.Event.{store, Event, local}
 use Rattle.model.specs.Bench.{hears}
+use Rattle.model.specs.Contacts.{asksFor, groupsCarried, anew, areasAnew}
 use Rattle.model.specs.Step.{
   scanned,
   statusOf,
@@ -60,6 +61,7 @@ use Rattle.model.specs.Step.{
   finished,
   telling,
   stepOf,
+  areasLeft,
   served,
   framed,
   judged,
@@ -139,7 +141,7 @@ unfolding
     bcd clockFits
     acknowledges dumps fileOf flat historyChars freedFor mostOf toldFrom tellOf historyOf recordChars keepsOldest sparedIn fullAs storedWhen storedAs
     masterFits holdFits writeFits coreFits givable replyFits memoryFits fileFits historyFits areasFit portFits fits
-    scanned statusOf sentAs answered settled finished telling stepOf served framed judged notedIn storeMade localOf makeOf
+    scanned statusOf sentAs answered settled finished telling stepOf areasLeft areasAnew groupsCarried asksFor anew served framed judged notedIn storeMade localOf makeOf
     markNumber portStatus sentChars markAfter portHeard portAfter short turnedAway shows moves decided resultOf nextOf entryOf afterFrom traceFrom
     chunks carried shownFor shownIn shownBy shown latestAfter releasedBy latestFrom releasedFrom wasKept storedLocally storedBy storedIn
     lotsStanding lotsDropped struckAt wasSwapped dropsLocally dropsBy sparedBy ledgerAfter ledgerFrom

@@ -17,7 +17,7 @@ use Rattle.model.specs.Scan.{tells, refuses, counts}
 use Rattle.model.specs.Control.{breaks}
 use Rattle.model.specs.Clock.{timeIn, timeFits, clockAfter, setTimeOf}
 use Rattle.model.specs.Event.{Stretch, stretch}
-use Rattle.model.specs.Step.{timed, internalOf, Made, settled, finished, alone, quiet, internalStep, stepOf, served, broadcastOf, broadcastMade, framed, followed, judged, makeOf}
+use Rattle.model.specs.Step.{timed, internalOf, Made, settled, finished, alone, quiet, internalStep, stepOf, startedAnew, served, broadcastOf, broadcastMade, framed, followed, judged, makeOf}
 use Rattle.model.specs.Port.{portAfter}
 use Rattle.model.specs.Run.{short, Result, shows, moves, decided, resultOf, nextOf}
 use Rattle.model.specs.Refusal.{refusedState}
@@ -140,7 +140,7 @@ module _ (c : Config) (i : Inner) (q : Request) (g : goodSet q ≡ true) where
   broadcast-good lag = rw (good-function, good-command) refl
 
   own-good : unitOf (q .address) ≡ c .unit → breaks (i .core .hold) q ≡ false → (lag : ℕ)
-      → framed c i lag q ≡ finished i q (alone i (timed (i .core) (i .areas) (setTimeOf lag (i .core .clock) q)))
+      → framed c i lag q ≡ startedAnew c q (finished i q (alone i (timed (i .core) (i .areas) (setTimeOf lag (i .core .clock) q))))
   unfolding framed served
   own-good u b lag = rw (eq-eqb _ _ u, step-good lag b)
 

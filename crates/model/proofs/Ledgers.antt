@@ -12,7 +12,7 @@ use Rattle.model.specs.Config.{Config, keepsOldest}
 use Rattle.model.specs.State.{State, freshHistory, freshOf}
 use Rattle.model.specs.Fits.{fits}
 use Rattle.model.specs.History.{sparedIn, storedAs}
-use Rattle.model.specs.Event.{Local, setWord, setValue, pulses, store, Event, stretch, elapsed, local}
+use Rattle.model.specs.Event.{Local, setWord, setValue, pulses, store, contact, Event, stretch, elapsed, local}
 use Rattle.model.specs.Step.{storeMade, localOf, makeOf}
 use Rattle.model.specs.Run.{Entry, short, turnedAway, shows, resultOf, nextOf, entryOf, afterFrom, traceFrom, after, trace}
 use Rattle.model.specs.Formed.{Formed}
@@ -153,6 +153,7 @@ module _ (c : Config) (s : State) where
   local-drops (setWord n w) g d = false-true d
   local-drops (setValue n v) g d = false-true d
   local-drops (pulses n p) g d = false-true d
+  local-drops (contact n x) g d = false-true d
   local-drops (store f e vs) g d = (vs, store-drops (f .0) g vs _ refl d)
 
   away-drops : (e : Event) (o : Outcome) (g : ℕ) → dropsBy e (Ended o) g ≡ false
@@ -162,6 +163,7 @@ module _ (c : Config) (s : State) where
   away-drops (local (setWord n w)) o g = refl
   away-drops (local (setValue n v)) o g = refl
   away-drops (local (pulses n p)) o g = refl
+  away-drops (local (contact n x)) o g = refl
   away-drops (local (store f e vs)) o g = refl
 
   made-drops : (e : Event) (g : ℕ) → dropsBy e (makeOf c (s .inner) e .answer) g ≡ true → Swaps g

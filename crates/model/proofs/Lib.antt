@@ -2,6 +2,7 @@ pub mod Conditions
 pub mod Unique
 pub mod FileLaws
 pub mod AreaLaws
+pub mod BitLaws
 pub mod FrameLaws
 pub mod PairLaws
 pub mod Ages
@@ -11,6 +12,8 @@ pub mod Parts
 pub mod PartFits
 pub mod Valid
 pub mod Shape
+pub mod GroupLaws
+pub mod Tallies
 pub mod Refusing
 pub mod RefusedStretch
 pub mod LocalRefusals
@@ -26,6 +29,7 @@ pub mod Records
 pub mod Ledgers
 pub mod Demand3
 pub mod Worked
+pub mod ContactsWorked
 pub mod Dropped
 pub mod LowFirst
 pub mod Times

@@ -1,23 +1,26 @@
 -- What a refused local event leaves: all, but that a full file sets bit 3. Assumes nothing.
-use Prim.Native.Nat.{ℕ, _≤_}
+use Prim.Native.Nat.{ℕ, _/_, _≤_}
 use mathlib.Core.Path.{_≡_, refl, sym, _∙_}
 use mathlib.Core.List.{List}
-use mathlib.Core.Bool.{true, false, not, _&&_, true≢false}
+use mathlib.Core.Bool.{true, false, _&&_, true≢false}
+use lib.Dec.{ltb}
 use native.Mathlib.Omega.{arith}
 use Rattle.model.specs.Outcome.{carriedOut, answerNumber}
-use Rattle.model.specs.Config.{Config, has, accumulator, hasCalculation}
+use Rattle.model.specs.Config.{Config, has, hasCalculation}
 use Rattle.model.specs.State.{Inner}
 use Rattle.model.specs.Change.{applied, droppedAfter, addedBy, changedBy}
-use Rattle.model.specs.Inputs.{hasAccumulator, setWordOf, pulsesOf}
+use Rattle.model.specs.Inputs.{settable, hasAccumulator, setWordOf, pulsesOf}
 use Rattle.model.specs.Calculations.{setValueOf}
+use Rattle.model.specs.Contacts.{contactOf}
 use Rattle.model.specs.History.{recordChars, storedAs}
-use Rattle.model.specs.Event.{Local, setWord, setValue, pulses, store, Event, stretch, elapsed, local}
-use Rattle.model.specs.Step.{silent, Made, quiet, elapsedMade, localMade, wordMade, valueMade, notedIn, storeMade, localOf, makeOf}
+use Rattle.model.specs.Event.{Local, setWord, setValue, pulses, store, contact, Event, stretch, elapsed, local}
+use Rattle.model.specs.Step.{silent, Made, quiet, elapsedMade, localMade, wordMade, valueMade, contactMade, notedIn, storeMade, localOf, makeOf}
 use Rattle.model.specs.Port.{portAfter}
 use Rattle.model.specs.Refusal.{arrives, succeeded, wasFull, refusedLocal, RefusedLocally}
 use Rattle.model.specs.declared.Stored.{Stored}
 use Rattle.model.specs.declared.Stored.the-variants.{Kept, Swapped, Full, NotEquipped, WrongValues}
 use Rattle.model.specs.declared.Action.the-variants.{Rest}
+use Rattle.model.specs.declared.Contact.{Contact}
 use Rattle.model.specs.declared.Input.{Input}
 use Rattle.model.specs.declared.SpecialCalculation.{SpecialCalculation}
 use Rattle.model.specs.declared.File.{File}
@@ -39,7 +42,7 @@ module _ {A : Type 0} {i : Inner} {e : Event} {w : A → Made} {r : A} where
 module _ (c : Config) (i : Inner) where
   set-word-meets : (n : Input) (w : ℕ) → Meets i (local (setWord n w)) (wordMade i) (setWordOf (c .inputs) (i .areas .words) (n .0) w)
   unfolding setWordOf wordMade localMade quiet succeeded carriedOut refusedLocal wasFull portAfter
-  set-word-meets n w = by-cond (Meets i (local (setWord n w)) (wordMade i)) (has (c .inputs) (n .0) && not (accumulator (n .0))) (λ e. succeeds refl) (λ e. fails refl refl refl (λ p. refl) (omega arith))
+  set-word-meets n w = by-cond (Meets i (local (setWord n w)) (wordMade i)) (has (c .inputs) (n .0) && settable (n .0)) (λ e. succeeds refl) (λ e. fails refl refl refl (λ p. refl) (omega arith))
 
   set-value-meets : (n : SpecialCalculation) (v : ℕ) → Meets i (local (setValue n v)) (valueMade i) (setValueOf (c .calculations) (i .areas .values) (n .0) v)
   unfolding setValueOf valueMade localMade quiet succeeded carriedOut refusedLocal wasFull portAfter
@@ -48,6 +51,10 @@ module _ (c : Config) (i : Inner) where
   pulses-meets : (n : Input) (k : ℕ) → Meets i (local (pulses n k)) (wordMade i) (pulsesOf (c .inputs) (i .areas .words) (n .0) k)
   unfolding pulsesOf wordMade localMade quiet succeeded carriedOut refusedLocal wasFull portAfter
   pulses-meets n k = by-cond (Meets i (local (pulses n k)) (wordMade i)) (hasAccumulator (c .inputs) (n .0)) (λ e. succeeds refl) (λ e. fails refl refl refl (λ p. refl) (omega arith))
+
+  contact-meets : (n : Contact) (s : ℕ) → Meets i (local (contact n s)) (contactMade i) (contactOf (c .inputs) (i .areas .words) (i .areas .changed) (n .0) s)
+  unfolding contactOf contactMade localMade quiet succeeded carriedOut refusedLocal wasFull portAfter
+  contact-meets n s = by-cond (Meets i (local (contact n s)) (contactMade i)) (has (c .inputs) (n .0 / 8) && ltb s 2) (λ e. succeeds refl) (λ e. fails refl refl refl (λ p. refl) (omega arith))
 
   store-meets : (f : File) (x : ℕ) (vs r : List ℕ) (d : Stored) → Meets i (local (store f x vs)) (storeMade i (f .0) r) d
   unfolding storeMade notedIn addedBy changedBy applied droppedAfter succeeded refusedLocal wasFull portAfter
@@ -62,6 +69,7 @@ module _ (c : Config) (i : Inner) where
   each-meets (setWord n w) = record { refuses = set-word-meets n w .refuses }
   each-meets (setValue n v) = record { refuses = set-value-meets n v .refuses }
   each-meets (pulses n k) = record { refuses = pulses-meets n k .refuses }
+  each-meets (contact n s) = record { refuses = contact-meets n s .refuses }
   each-meets (store f x vs) =
       record { refuses = store-meets f x vs (recordChars (record { event = x; clock = i .core .clock }) vs) (storedAs c (i .history) (f .0) vs) .refuses }
 

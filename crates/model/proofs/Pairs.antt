@@ -18,7 +18,7 @@ use Rattle.model.specs.Change.{stays, applied, droppedAfter, changedBy}
 use Rattle.model.specs.Scan.{counts}
 use Rattle.model.specs.Control.{isOf, breaks}
 use Rattle.model.specs.Blocks.{WriteResult, waitsFor, writeWhen, writeOf, Executed, notExecuted, executes, executeWhen, executeOf, reaches, dropped}
-use Rattle.model.specs.Step.{Step, withWrite, withBroadcast, scanned, written, executed, internalOf, statusOf, Said, silent, said, sentAs, answered, Made, quiet, settled, Stepped, finished, alone, brokenOff, internalStep, stepOf, served, broadcastMade, framed, followed, judged}
+use Rattle.model.specs.Step.{Step, withWrite, withBroadcast, scanned, written, executed, internalOf, statusOf, Said, silent, said, sentAs, answered, Made, quiet, settled, Stepped, finished, alone, brokenOff, internalStep, stepOf, areasLeft, startedAnew, served, broadcastMade, framed, followed, judged}
 use Rattle.model.specs.Laws.{WriteEnds, taken, brokenOff as wasBroken, held, PairEnds, done, wrongCount, notValid, unwritten, PairMade}
 use Rattle.model.specs.declared.Outcome.{Outcome}
 use Rattle.model.specs.declared.Outcome.the-variants.{WriteTaken}
@@ -60,6 +60,9 @@ module _ (c : Config) (i : Inner) (lag : ℕ) (w : Request) (f : w .function ≡
   unfolding stepOf internalStep internalOf
   write-step P b t = simp (f, k) (by-cond P (breaks (i .core .hold) w) (λ e. b) (λ e. t))
 
+  abbrev ends : Stepped → Made
+  ends m = startedAnew c w (finished i w m)
+
   -- which it is where 5 is the answer
   Takes : Made → Type 0
   Takes m = answerNumber (m .answer) ≡ 5 → (unitOf (w .address) ≡ c .unit) × Taken i by m
@@ -75,30 +78,30 @@ module _ (c : Config) (i : Inner) (lag : ℕ) (w : Request) (f : w .function ≡
       (eqb (numberOf (p .says .outcome)) 0) (λ e. not-taken _ _ (λ n. omega arith)) (λ e. not-taken _ _ (λ n. omega arith))
 
   module _ (own : unitOf (w .address) ≡ c .unit) where
-    waits-takes : (bias o : ℕ) → dropped (i .core .write) by ≡ NoWrite → Takes (finished i w (wrote (waitsFor by bias o)))
-    unfolding Takes waitsFor written alone finished settled answered sentAs changedBy applied droppedAfter isOf
+    waits-takes : (bias o : ℕ) → dropped (i .core .write) by ≡ NoWrite → Takes (ends (wrote (waitsFor by bias o)))
+    unfolding Takes waitsFor written alone finished settled answered sentAs changedBy applied droppedAfter isOf areasLeft
     waits-takes bias o d n = (
       own,
       record { answer = refl; action = refl; sent = refl; change = refl; write = record { master = by; bias = bias; ordinal = record { 0 = o }; age = 0 }; owner = eq-eqb (by .0) (by .0) refl; earlier = d; inner = refl },
     )
 
-    when-takes : (p : Pending) (bias o : ℕ) → dropped p by ≡ dropped (i .core .write) by → Takes (finished i w (wrote (writeWhen p by bias o)))
+    when-takes : (p : Pending) (bias o : ℕ) → dropped p by ≡ dropped (i .core .write) by → Takes (ends (wrote (writeWhen p by bias o)))
     unfolding writeWhen dropped
     when-takes NoWrite bias o e = waits-takes bias o (sym e)
     when-takes (Waits p) bias o e =
-        by-cond {A = WriteResult} (λ r. Takes (finished i w (wrote r))) (isOf (p .master) by) (λ b. waits-takes bias o (sym e ∙ rw b))
+        by-cond {A = WriteResult} (λ r. Takes (ends (wrote r))) (isOf (p .master) by) (λ b. waits-takes bias o (sym e ∙ rw b))
         (λ b. unfold Takes written alone finished in λ n. absurd (omega arith))
 
-    write-takes : Takes (finished i w (wrote (writeOf (i .core .write) w)))
+    write-takes : Takes (ends (wrote (writeOf (i .core .write) w)))
     unfolding writeOf
     write-takes =
-        by-cond {A = WriteResult} (λ r. Takes (finished i w (wrote r))) (counts 3 w) (λ e. when-takes (i .core .write) _ _ refl)
+        by-cond {A = WriteResult} (λ r. Takes (ends (wrote r))) (counts 3 w) (λ e. when-takes (i .core .write) _ _ refl)
         (λ e. unfold Takes written alone finished in λ n. absurd (omega arith))
 
     served-takes : Takes (served c i lag w)
     unfolding served
     served-takes =
-        write-step (λ m. Takes (finished i w m)) (unfold Takes brokenOff scanned alone finished in λ n. absurd (omega arith)) write-takes
+        write-step (λ m. Takes (ends m)) (unfold Takes brokenOff scanned alone finished in λ n. absurd (omega arith)) write-takes
 
   pub write-taken : answerNumber (framed c i lag w .answer) ≡ 5 → (unitOf (w .address) ≡ c .unit) × Taken i by (framed c i lag w)
   unfolding Takes framed
@@ -161,10 +164,10 @@ ends-other (unwritten taken n) = absurd (n refl)
 ends-other (unwritten wasBroken n) = refl
 ends-other (unwritten held n) = refl
 
-made-pair : (i j : Inner) (q : Request) (m : Stepped) → statusOf (j .core) ≡ statusOf (i .core) → PairEnds (m .step .says .outcome)
-    → PairMade i (masterOf (q .address)) (finished j q m)
+made-pair : (c : Config) (i j : Inner) (q : Request) (m : Stepped) → statusOf (j .core) ≡ statusOf (i .core) → PairEnds (m .step .says .outcome)
+    → PairMade i (masterOf (q .address)) (startedAnew c q (finished j q m))
 unfolding finished settled
-made-pair i j q m s e =
+made-pair c i j q m s e =
     record {
       outcome = m .step .says .outcome;
       ends = e;
@@ -173,7 +176,7 @@ made-pair i j q m s e =
       gone = rw (ends-other e) (dropped-twice (m .step .core .write) (masterOf (q .address)));
     }
 
-pub framed-own : (c : Config) (i : Inner) (lag : ℕ) (q : Request) → unitOf (q .address) ≡ c .unit → framed c i lag q ≡ finished i q (stepOf c i lag q)
+pub framed-own : (c : Config) (i : Inner) (lag : ℕ) (q : Request) → unitOf (q .address) ≡ c .unit → framed c i lag q ≡ startedAnew c q (finished i q (stepOf c i lag q))
 unfolding framed served
 framed-own c i lag q e = rw (eq-eqb (unitOf (q .address)) (c .unit) e)
 
@@ -219,7 +222,7 @@ module _ (c : Config) (i : Inner) (lag : ℕ) (s : List ℕ) (w x : Frame) (p : 
     unfolding requestIn finished
     unwritten-made e =
         let z = framed-own c i lag asks own in
-        rw z (made-pair i i asks _ refl (refused-ends seam-ends (rw z at e)))
+        rw z (made-pair c i i asks _ refl (refused-ends seam-ends (rw z at e)))
 
     executed-made : (j : Inner) (v : Write) → isOf (v .master) (masterOf (w .address)) ≡ true
         → j ≡ record { core = withWrite (i .core) (Waits v); areas = i .areas; history = i .history }
@@ -229,7 +232,7 @@ module _ (c : Config) (i : Inner) (lag : ℕ) (s : List ℕ) (w x : Frame) (p : 
         let a : x .address ≡ w .address = sym (p .address) in
         let k : unitOf (x .address) ≡ c .unit = ap unitOf a ∙ own in
         rw (framed-own c j lag gives k, ← a)
-        (made-pair i j gives _ (ap (λ (z : Inner). statusOf (z .core)) e)
+        (made-pair c i j gives _ (ap (λ (z : Inner). statusOf (z .core)) e)
         (execute-ends c j lag gives (p .executes .0) (p .executes .1) v (ap (λ (z : Inner). z .core .write) e) (rw a o)))
 
     -- THE LAW: what a pair for this unit comes to (Request 5.2, 5.4)

@@ -7,17 +7,18 @@ use lib.ListN.{length}
 use lib.Dec.{eqb, ltb}
 use Rattle.chars.specs.Word.{wordAt}
 use Rattle.model.specs.Frame.{Request, unitOf, masterOf, broadcastUnit, frameIn, heardOf, requestIn}
-use Rattle.model.specs.Outcome.{numberOf}
+use Rattle.model.specs.Outcome.{numberOf, answerNumber}
 use Rattle.model.specs.Config.{Config, hasFile}
 use Rattle.model.specs.State.{Areas, History, Inner}
 use Rattle.model.specs.Change.{stays, adds, swaps, applied, droppedAfter, addedBy, changedBy}
 use Rattle.model.specs.Scan.{Scan, tells, counts}
 use Rattle.model.specs.Inputs.{Changed, resetCountOf}
+use Rattle.model.specs.Contacts.{Contacted, groupsCarried, areasAnew}
 use Rattle.model.specs.Control.{controlOf, breaks, heldAfter, isOf}
 use Rattle.model.specs.Blocks.{executeOf, writeOf, dropped, waitsAfter}
 use Rattle.model.specs.Clock.{setTimeOf, clockAfter}
 use Rattle.model.specs.History.{Told, acknowledges, fileOf, untold, agrees, againWhen, tellOf, historyOf, recordChars, sparedIn, storedAs}
-use Rattle.model.specs.Event.{Stretch, Local, setWord, setValue, pulses, store, Event, stretch, elapsed, local}
+use Rattle.model.specs.Event.{Stretch, Local, setWord, setValue, pulses, store, contact, Event, stretch, elapsed, local}
 use Rattle.model.specs.Step.{
   Step,
   withWords,
@@ -42,6 +43,8 @@ use Rattle.model.specs.Step.{
   initialStep,
   internalStep,
   stepOf,
+  areasLeft,
+  startedAnew,
   served,
   broadcastOf,
   broadcastMade,
@@ -52,6 +55,7 @@ use Rattle.model.specs.Step.{
   localMade,
   wordMade,
   valueMade,
+  contactMade,
   notedIn,
   storeMade,
   localOf,
@@ -77,7 +81,7 @@ use Rattle.model.proofs.Conditions.{by-cond}
 use Rattle.model.proofs.PairLaws.{by-heard, pair-address}
 use Rattle.model.proofs.Pairs.{by-pair}
 use Rattle.model.proofs.FileLaws.{toldAfter, newTold}
-use Rattle.model.proofs.AreaLaws.{SameLengths, setWord-long, pulses-long, resetCount-long, setValue-long, execute-long}
+use Rattle.model.proofs.AreaLaws.{SameLengths, setWord-long, pulses-long, resetCount-long, setValue-long, ContactsLong, contact-long, anew-long, execute-long}
 
 -- ---- a property, part by part
 
@@ -152,6 +156,19 @@ module _ (c : Config) (p : Parts) (l : Lasts c p) where
   finished-has i q m h =
       record { core = settled-has q (m .step .says .outcome) (m .step .core) (h .step .core); areas = h .step .areas; history = h .history }
 
+  anew-has : (q : Request) (m : Made) → Makes p m → Makes p (startedAnew c q m)
+  unfolding Makes areasLeft areasAnew
+  anew-has q m h =
+      let a = m .inner .areas in
+      let gs = groupsCarried (c .inputs) (a .fixed) q in
+      record {
+        core = h .core;
+        areas = by-cond (p .areas) (eqb (answerNumber (m .answer)) 0)
+            (λ e. l .lengths a _ (record { words = anew-long _ gs (a .words); values = refl; fixed = refl; block = refl; changed = anew-long _ gs (a .changed) }) (h .areas))
+            (λ e. h .areas);
+        history = h .history;
+      }
+
   quiet-has : (o : Answer) (i : Inner) → InnerHas p i → Makes p (quiet o i)
   unfolding Makes quiet
   quiet-has o i h = h
@@ -165,7 +182,7 @@ module _ (c : Config) (p : Parts) (l : Lasts c p) where
     unfolding changed
     changed-has q =
         let s : SameLengths a (withWords a (resetCountOf (c .inputs) (a .words) q .area)) =
-        record { words = resetCount-long (c .inputs) (a .words) q; values = refl; fixed = refl; block = refl } in
+        record { words = resetCount-long (c .inputs) (a .words) q; values = refl; fixed = refl; block = refl; changed = refl } in
         record { core = kh; areas = l .lengths a _ s ah }
 
     timed-has : (lag : ℕ) (q : Request) → StepHas p (timed k a (setTimeOf lag (k .clock) q))
@@ -185,8 +202,8 @@ module _ (c : Config) (p : Parts) (l : Lasts c p) where
     executed-has q =
         let r = executeOf (k .write) (a .fixed) (a .block) q in
         let e = execute-long (a .fixed) (a .block) (k .write) q in
-        let b : Areas = record { words = a .words; values = a .values; fixed = r .fixed; block = r .block } in
-        let s : SameLengths a b = record { words = refl; values = refl; fixed = e .fixed; block = e .block } in
+        let b : Areas = record { words = a .words; values = a .values; fixed = r .fixed; block = r .block; changed = a .changed } in
+        let s : SameLengths a b = record { words = refl; values = refl; fixed = e .fixed; block = e .block; changed = refl } in
         record { core = record { clock = kh .clock; hold = kh .hold; write = kh .write }; areas = l .lengths a b s ah }
 
     internal-has : (lag : ℕ) (q : Request) → p .request q → StepHas p (internalOf c k a lag q)
@@ -281,7 +298,7 @@ module _ (c : Config) (p : Parts) (l : Lasts c p) where
 
     served-has : (lag : ℕ) (q : Request) → p .request q → Makes p (served c i lag q)
     unfolding served
-    served-has lag q g = finished-has i q _ (step-has lag q g)
+    served-has lag q g = anew-has q _ (finished-has i q _ (step-has lag q g))
 
     broadcastMade-has : (s : Step) → StepHas p s → Makes p (broadcastMade i s)
     unfolding Makes broadcastMade quiet
@@ -335,11 +352,15 @@ module _ (c : Config) (p : Parts) (l : Lasts c p) where
 
     word-has : (r : Changed) → length (r .area) ≡ length (i .areas .words) → Makes p (wordMade i r)
     unfolding wordMade
-    word-has r e = local-has _ _ (record { words = e; values = refl; fixed = refl; block = refl })
+    word-has r e = local-has _ _ (record { words = e; values = refl; fixed = refl; block = refl; changed = refl })
 
     value-has : (r : Changed) → length (r .area) ≡ length (i .areas .values) → Makes p (valueMade i r)
     unfolding valueMade
-    value-has r e = local-has _ _ (record { words = refl; values = e; fixed = refl; block = refl })
+    value-has r e = local-has _ _ (record { words = refl; values = e; fixed = refl; block = refl; changed = refl })
+
+    contact-has : (r : Contacted) → ContactsLong (i .areas .words) (i .areas .changed) r → Makes p (contactMade i r)
+    unfolding contactMade
+    contact-has r e = local-has _ _ (record { words = e .words; values = refl; fixed = refl; block = refl; changed = e .changed })
 
     store-has : (f : ℕ) (r : Record) (vs : List ℕ) (o : Stored) → storedAs c (i .history) f vs ≡ o → Makes p (storeMade i f (recordChars r vs) o)
     unfolding Makes storeMade notedIn addedBy changedBy applied droppedAfter
@@ -357,6 +378,7 @@ module _ (c : Config) (p : Parts) (l : Lasts c p) where
     makes-local (setWord n w) = word-has _ (setWord-long (c .inputs) (i .areas .words) (n .0) w)
     makes-local (setValue n v) = value-has _ (setValue-long (c .calculations) (i .areas .values) (n .0) v)
     makes-local (pulses n k) = word-has _ (pulses-long (c .inputs) (i .areas .words) (n .0) k)
+    makes-local (contact n s) = contact-has _ (contact-long (c .inputs) (i .areas .words) (i .areas .changed) (n .0) s)
     makes-local (store f e vs) = store-has (f .0) (record { event = e; clock = i .core .clock }) vs _ refl
 
     makes : (e : Event) → p .event e → Makes p (makeOf c i e)

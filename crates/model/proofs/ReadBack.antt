@@ -34,6 +34,7 @@ use Rattle.model.specs.Step.{
   brokenOff,
   telling,
   stepOf,
+  startedAnew,
   served,
   broadcastMade,
   framed,
@@ -197,9 +198,9 @@ module _ (i : Inner) (q : Request) (mark : Mark) (one : toOne q ≡ true) (low :
   silent-read : (m : Made) → m .sent ≡ silent → ReadBack (readTo q (sentChars mark (m .sent))) m (sentChars mark (m .sent))
   silent-read m t = silence (ap (sentChars mark) t ∙ (unfold sentChars in refl))
 
-  finished-read : (m : Stepped) → Answers q (m .step .says) → ReadBack (readTo q (sentChars mark (finished i q m .sent))) (finished i q m) (sentChars mark (finished i q m .sent))
+  finished-read : (c : Config) (m : Stepped) → Answers q (m .step .says) → ReadBack (readTo q (sentChars mark (finished i q m .sent))) (startedAnew c q (finished i q m)) (sentChars mark (finished i q m .sent))
   unfolding Answers finished
-  finished-read m k =
+  finished-read c m k =
       let o = m .step .says .outcome in
       let ys = m .step .says .chars in
       by-sending (sendingOf o) (λ e. silent-read _ (sent-nothing (sendingOf o) (saying o ys) e)) (λ n. said-read o ys (k .0) (k .1) n _ refl (sent-something (sendingOf o) (saying o ys) n))
@@ -300,7 +301,7 @@ module _ (c : Config) (s : State) (q : Request) (ok : fits c s ≡ true) (formed
       (λ e. by-cond (Reads mark) (eqb (unitOf (q .address)) broadcastUnit) (λ e. (unfold Reads broadcastMade quiet in silence (unfold sentChars in refl))) (λ e. (unfold Reads quiet in silence (unfold sentChars in refl))))
     where
       own : unitOf (q .address) ≡ c .unit → Reads mark (served c i lag q)
-      own e = unfold Reads served in finished-read i q mark (own-one e) (asks-function q asks) (stepOf c i lag q) (step-answer lag)
+      own e = unfold Reads served in finished-read i q mark (own-one e) (asks-function q asks) c (stepOf c i lag q) (step-answer lag)
 
   -- a stretch with the frame of the request
   made-read : (mark : Mark) (t : Stretch) → t .chars ≡ frameChars q → Reads mark (makeOf c i (stretch t))

@@ -9,7 +9,7 @@ use native.Mathlib.Omega.{arith}
 use borrow.Author.Tests.{leb-true, ne-eqb}
 use Rattle.model.specs.Limits.{writeFrame}
 use Rattle.model.specs.Frame.{Request, masterOf, unitOf, broadcastUnit, frameIn, heardOf, requestIn}
-use Rattle.model.specs.Outcome.{numberOf, sendingOf, carriedOut}
+use Rattle.model.specs.Outcome.{numberOf, sendingOf, carriedOut, answerNumber}
 use Rattle.model.specs.Config.{Config, within, hasFile}
 use Rattle.model.specs.State.{Files, Inner}
 use Rattle.model.specs.Change.{Change, applied, droppedAfter, changedBy}
@@ -19,7 +19,7 @@ use Rattle.model.specs.Control.{isOf, breaks}
 use Rattle.model.specs.Blocks.{dropped}
 use Rattle.model.specs.Laws.{taken, brokenOff as broke, held, PairEnds, done, wrongCount, notValid, unwritten}
 use Rattle.model.specs.History.{Told, acknowledges, fileOf, untold, toldFrom, agrees, againWhen, tellOf, historyOf}
-use Rattle.model.specs.Step.{Step, withHold, withWrite, scanned, Said, sentAs, answered, Made, quiet, settled, Stepped, finished, alone, telling, initialStep, internalStep, stepOf, served, broadcastMade, framed, judged}
+use Rattle.model.specs.Step.{Step, withHold, withWrite, scanned, Said, sentAs, answered, Made, quiet, settled, Stepped, finished, alone, telling, initialStep, internalStep, stepOf, areasLeft, startedAnew, served, broadcastMade, framed, judged}
 use Rattle.model.specs.Refusal.{declined, refusedHold, refusedWrite, refusedBroadcast, refusedCore, refusedInner, replies, Refused}
 use Rattle.model.specs.declared.Outcome.{Outcome}
 use Rattle.model.specs.declared.Outcome.the-variants.{Done, NotWhole, CheckWrong, OtherUnit, BroadcastDone, WriteTaken, Unknown, WrongCount, NotValid, TooLong, NothingAgain, SelectTimedOut, BrokenOff, SelectHeld, NothingWaits, WriteHeld, BroadcastRefused, NotConfigured, BufferShort}
@@ -33,7 +33,7 @@ use Rattle.model.specs.declared.Frame.{Frame}
 use Rattle.model.specs.declared.Heard.the-variants.{Pair}
 use Rattle.model.specs.declared.Write.{Write}
 use Rattle.model.specs.declared.Pending.the-variants.{NoWrite, Waits}
-use Rattle.model.proofs.Conditions.{by-cond, by-bool, and-left, and-right}
+use Rattle.model.proofs.Conditions.{by-cond, by-bool, and-left, and-right, or-left}
 use Rattle.model.proofs.PairLaws.{by-heard, pair-address}
 use Rattle.model.proofs.Pairs.{by-pair, pair-made}
 use Rattle.model.proofs.Refusing.{itself, Plain, Kept, broadcast-plain, declines, internal-kept, other-kept, broken-off-kept}
@@ -166,9 +166,20 @@ module _ (i : Inner) (q : Request) where
       (λ e. by-cond P (eqb (q .function) 0x20) (λ e. internal-meets c lag)
       (λ e. alone-meets _ (other-kept (i .core) (i .areas) c q))))
 
+  -- a refusal carried no group
+  anew-meets : (c : Config) {m : Made} → Meets q i made m → Meets q i made (startedAnew c q m)
+  unfolding areasLeft carriedOut
+  anew-meets c {m = m} h =
+      record {
+        refuses = λ o e n.
+            let z : eqb (answerNumber (m .answer)) 0 ≡ false = rw e (or-left _ _ n) in
+            let r = h .refuses o e n in
+            record { inner = rw z (r .inner); action = r .action; sent = r .sent; row = r .row };
+      }
+
   served-meets : (c : Config) (lag : ℕ) → Meets q i made (served c i lag q)
   unfolding served
-  served-meets c lag = meets-made (step-meets c lag)
+  served-meets c lag = anew-meets c (meets-made (step-meets c lag))
 
   broadcast-meets : (p : Step) → Plain (i .core) (i .areas) itself p → Meets q i (broadcastMade i) p
   unfolding broadcastMade quiet carriedOut refusedInner refusedCore refusedHold refusedWrite refusedBroadcast declined within replies

@@ -17,7 +17,7 @@ use Rattle.model.specs.Change.{Change, stays, cuts, applied, droppedAfte
 use Rattle.model.specs.Scan.{tells, refuses, counts}
 use Rattle.model.specs.Control.{isOf, breaks}
 use Rattle.model.specs.History.{Told, acknowledges, dumps, fileOf, untold, historyChars, freedFor, mostOf, toldFrom, agrees, againWhen, tellOf, historyOf}
-use Rattle.model.specs.Step.{Step, scanned, internalOf, Made, quiet, Stepped, finished, alone, brokenOff, telling, restarted, initialStep, internalStep, stepOf, served, otherOf, broadcastOf, broadcastMade, framed, judged}
+use Rattle.model.specs.Step.{Step, scanned, internalOf, Made, quiet, Stepped, finished, alone, brokenOff, telling, restarted, initialStep, internalStep, stepOf, startedAnew, served, otherOf, broadcastOf, broadcastMade, framed, judged}
 use Rattle.model.specs.Port.{sentChars}
 use Rattle.model.specs.Formed.{AllSized}
 use Rattle.model.specs.Line.{Shown, told, forgot, other, initialises, shownFor, shownIn, Latest, nobody, gave, latestAfter, releasedBy, sparedBy}
@@ -273,14 +273,20 @@ module _ (c : Config) (l : Latest) (i : Inner) (mark : Mark) (t : Matches (i .hi
       (λ e. untold-fine c l i mark q t WrongCount (omega arith)))
       (λ e. untold-fine c l i mark q t Unknown (omega arith))
 
+  -- the groups that a reply carried are none of it
+  anew-fine : (q : Request) (m : Made) → Fine c l i mark q m → Fine c l i mark q (startedAnew c q m)
+  unfolding Fine
+  anew-fine q m h = h
+
   served-fine : (lag : ℕ) (q : Request) → Fine c l i mark q (served c i lag q)
   unfolding served stepOf brokenOff scanned initialises
   served-fine lag q =
       let P : Stepped → Type 0 = λ m. Fine c l i mark q (finished i q m) in
-      by-cond P (breaks (i .core .hold) q) (λ e. refused-fine c l i mark q t (brokenOff (i .core) (i .areas)) (omega arith))
+      anew-fine q _
+      (by-cond P (breaks (i .core .hold) q) (λ e. refused-fine c l i mark q t (brokenOff (i .core) (i .areas)) (omega arith))
       (λ e. by-cond P (eqb (q .function) 0x04) (λ a. history-fine q (eqb-true _ _ a))
       (λ a. by-cond P (eqb (q .function) 0x20) (λ b. internal-fine c l i mark q t lag (eqb-true _ _ b))
-      (λ b. keeps-fine c l i mark q t (otherOf c (i .core) (i .areas) q) a (rw b))))
+      (λ b. keeps-fine c l i mark q t (otherOf c (i .core) (i .areas) q) a (rw b)))))
 
   -- ---- any other stretch
 

@@ -125,6 +125,7 @@ record AreasFormed (a : Areas) : Type 0 where
   words : length (a .words) ≡ 256
   values : length (a .values) ≡ 128
   fixed : length (a .fixed) ≡ 528
+  changed : length (a .changed) ≡ 32
 
 abbrev forming : Config → Parts
 forming c =
@@ -150,7 +151,7 @@ forming-lasts c =
       no-write = tt;
       write = λ w q g k. tt;
       waits-after = λ w ms k. tt;
-      lengths = λ a b s h. record { words = s .words ∙ h .words; values = s .values ∙ h .values; fixed = s .fixed ∙ h .fixed };
+      lengths = λ a b s h. record { words = s .words ∙ h .words; values = s .values ∙ h .values; fixed = s .fixed ∙ h .fixed; changed = s .changed ∙ h .changed };
       told = λ h q g e k. told-formed c h q k;
       forgotten = λ h k. stays-formed c h _ k;
       kept = λ h f r vs e k. taken-formed c h f r vs (stored-kept c h f vs e .taken) k;
@@ -161,7 +162,7 @@ formed-inner : (c : Config) (s : State) → Formed c s → InnerHas (forming c) 
 formed-inner c s f =
     record {
       core = record { clock = tt; hold = tt; write = tt };
-      areas = record { words = f .words; values = f .values; fixed = f .fixed };
+      areas = record { words = f .words; values = f .values; fixed = f .fixed; changed = f .changed };
       history = record { files = f .files; dropped = f .dropped; records = f .records };
     }
 
@@ -171,6 +172,7 @@ inner-formed c s i =
       words = i .areas .words;
       values = i .areas .values;
       fixed = i .areas .fixed;
+      changed = i .areas .changed;
       files = i .history .files;
       dropped = i .history .dropped;
       records = i .history .records;
@@ -183,6 +185,7 @@ fresh-formed c =
       words = refl;
       values = refl;
       fixed = refl;
+      changed = refl;
       files = refl;
       dropped = refl;
       records = λ f. rw (held-none 32 f) none;

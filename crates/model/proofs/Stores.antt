@@ -14,8 +14,8 @@ use Rattle.model.specs.Config.{Config, sizeOf}
 use Rattle.model.specs.State.{Files, Inner, heldIn, storeIn}
 use Rattle.model.specs.Change.{adds, swaps, applied, droppedAfter, addedBy, changedBy}
 use Rattle.model.specs.History.{flat, historyChars, recordChars, sparedIn, storedAs}
-use Rattle.model.specs.Event.{Local, setWord, setValue, pulses, store, Event, stretch, elapsed, local}
-use Rattle.model.specs.Step.{Made, quiet, elapsedMade, localMade, wordMade, valueMade, storeMade, localOf, makeOf}
+use Rattle.model.specs.Event.{Local, setWord, setValue, pulses, store, contact, Event, stretch, elapsed, local}
+use Rattle.model.specs.Step.{Made, quiet, elapsedMade, localMade, wordMade, valueMade, contactMade, storeMade, localOf, makeOf}
 use Rattle.model.specs.Port.{sentChars}
 use Rattle.model.specs.Formed.{AllSized}
 use Rattle.model.specs.Line.{other, shownBy, Latest, gave, latestAfter, wasKept, storedLocally, storedBy, wasSwapped, dropsLocally, dropsBy, sparedBy}
@@ -146,14 +146,16 @@ module _ (c : Config) (l : Latest) (i : Inner) (mark : Mark) (t : Matches (i .hi
   away-fine o (local (setWord n w)) = still t refl
   away-fine o (local (setValue n v)) = still t refl
   away-fine o (local (pulses n p)) = still t refl
+  away-fine o (local (contact n s)) = still t refl
   away-fine o (local (store f e vs)) = still t refl
 
   module _ (sized : (g : ℕ) → AllSized (sizeOf (c .values) g) (heldIn (i .history .files) g)) (long : length (i .history .files) ≡ 32) (known : length (i .history .dropped) ≡ 32) where
     local-fine : (e : Local) → FineEvent c l i mark (local e) (localOf c i e)
-    unfolding localOf shownBy storedBy storedLocally dropsBy dropsLocally quiet sentChars wordMade valueMade localMade
+    unfolding localOf shownBy storedBy storedLocally dropsBy dropsLocally quiet sentChars wordMade valueMade contactMade localMade
     local-fine (setWord n w) = still t refl
     local-fine (setValue n v) = still t refl
     local-fine (pulses n p) = still t refl
+    local-fine (contact n s) = still t refl
     local-fine (store f e vs) =
         store-fine f e vs (storedAs c (i .history) (f .0) vs) (λ e. stored-kept c (i .history) (f .0) vs e .taken) (λ e. stored-swapped c (i .history) (f .0) vs e .taken) long known
 

@@ -28,7 +28,8 @@ use Rattle.model.specs.History.{acknowledges, dumps, fileOf, flat, histo
 use Rattle.model.specs.Fits.{masterFits, holdFits, writeFits, coreFits, givable, replyFits, memoryFits, fileFits, historyFits, areasFit, portFits, fits}
 use Rattle.model.specs.Event.{store, Event, elapsed, local}
 use Rattle.model.specs.Bench.{withRoom, hears}
-use Rattle.model.specs.Step.{scanned, statusOf, sentAs, answered, quiet, settled, finished, telling, stepOf, served, framed, judged, coreAfter, elapsedMade, notedIn, storeMade, localOf, makeOf}
+use Rattle.model.specs.Contacts.{asksFor, groupsCarried, anew, areasAnew}
+use Rattle.model.specs.Step.{scanned, statusOf, sentAs, answered, quiet, settled, finished, telling, stepOf, areasLeft, served, framed, judged, coreAfter, elapsedMade, notedIn, storeMade, localOf, makeOf}
 use Rattle.model.specs.Port.{markNumber, portStatus, sentChars, markAfter, silentAfter, portHeard, portAfter}
 use Rattle.model.specs.Run.{short, turnedAway, shows, moves, decided, resultOf, nextOf, Entry, entryOf, afterFrom, traceFrom, after, trace}
 use Rattle.model.specs.Formed.{AllGiven}
@@ -108,7 +109,7 @@ unfolding
     bcd clockFits timeOf clockAt clockAfter
     acknowledges dumps fileOf flat historyChars freedFor mostOf toldFrom agrees againWhen tellOf historyOf recordChars keepsOldest sparedIn fullAs storedWhen storedAs
     masterFits holdFits writeFits coreFits givable replyFits memoryFits fileFits historyFits areasFit portFits fits
-    scanned statusOf sentAs answered quiet settled finished telling stepOf served framed judged coreAfter elapsedMade notedIn storeMade localOf makeOf
+    scanned statusOf sentAs answered quiet settled finished telling stepOf areasLeft areasAnew groupsCarried asksFor anew served framed judged coreAfter elapsedMade notedIn storeMade localOf makeOf
     markNumber portStatus sentChars markAfter silentAfter portHeard portAfter short turnedAway shows moves decided resultOf nextOf entryOf afterFrom traceFrom
     chunks carried shownFor shownIn shownBy shown latestAfter releasedBy latestFrom releasedFrom wasKept storedLocally storedBy storedIn
 worked =

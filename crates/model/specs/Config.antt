@@ -40,6 +40,10 @@ accumulators = upFrom 0x40 32
 abbrev pub analogs : List ℕ
 analogs = upFrom 0x80 128
 
+-- a word of two-bit status, which is a group of contacts (Request 8.1)
+unfoldable pub twoBit : ℕ → Bool
+twoBit n = ltb n 32
+
 unfoldable pub accumulator : ℕ → Bool
 accumulator n = within 0x40 0x5F n
 

@@ -1,6 +1,7 @@
 -- What may happen to a unit: a stretch, time, and the local events.
 use Prim.Native.Nat.{ℕ}
 use mathlib.Core.List.{List}
+use Rattle.model.specs.declared.Contact.{Contact}
 use Rattle.model.specs.declared.Input.{Input}
 use Rattle.model.specs.declared.SpecialCalculation.{SpecialCalculation}
 use Rattle.model.specs.declared.File.{File}
@@ -12,12 +13,13 @@ pub record Stretch : Type 0 where
   pub chars : List ℕ
   pub lag : ℕ
 
--- a word set, a calculation value set, pulses counted, a record stored (Scans 3)
+-- a word set, a calculation value set, pulses counted, a record stored, the state of a contact given (Scans 3; Request 8.1)
 pub data Local : Type 0 where
   setWord : Input → ℕ → Local
   setValue : SpecialCalculation → ℕ → Local
   pulses : Input → ℕ → Local
   store : File → ℕ → List ℕ → Local
+  contact : Contact → ℕ → Local
 
 -- time is in milliseconds (Outcomes 9)
 pub data Event : Type 0 where

@@ -7,7 +7,7 @@ use lib.Dec.{eqb}
 use Rattle.chars.specs.Word.{word}
 use Rattle.chars.specs.Gather.{gather}
 use Rattle.model.specs.Frame.{Request}
-use Rattle.model.specs.Config.{has, twoBits, simples, accumulators, analogs, accumulator}
+use Rattle.model.specs.Config.{has, twoBits, simples, accumulators, analogs, twoBit, accumulator}
 use Rattle.model.specs.Scan.{Scan, tells, refuses, withNoData, counts}
 use Rattle.model.specs.declared.Outcome.{Outcome}
 use Rattle.model.specs.declared.Outcome.the-variants.{Unknown, WrongCount, NotValid}
@@ -44,9 +44,13 @@ unchanged o area = record { says = refuses o; area = area }
 abbrev pub changes : List ℕ → List ℕ → Changed
 changes ys area = record { says = tells ys; area = area }
 
--- a local event sets a status or analog word (Scans 3, 4)
+-- a word that an event may set ready made: no count, and no two-bit word, which its contacts make (Scans 4; Request 8.6)
+unfoldable pub settable : ℕ → Bool
+settable n = not (accumulator n) && not (twoBit n)
+
+-- a local event sets a simple status or analog word (Scans 3, 4)
 unfoldable pub setWordOf : List ℕ → List ℕ → ℕ → ℕ → Changed
-setWordOf table words n w = cond (has table n && not (accumulator n)) (changes [] (set words n w)) (unchanged NotValid words)
+setWordOf table words n w = cond (has table n && settable n) (changes [] (set words n w)) (unchanged NotValid words)
 
 -- an equipped accumulator (Scans 1)
 unfoldable pub hasAccumulator : List ℕ → ℕ → Bool

@@ -9,6 +9,7 @@ pub mod Change
 pub mod Scan
 pub mod Inputs
 pub mod Tables
+pub mod Contacts
 pub mod Calculations
 pub mod Control
 pub mod Blocks
@@ -25,6 +26,7 @@ pub mod Formed
 pub mod Refusal
 pub mod Lag
 pub mod Line
+pub mod Tally
 pub mod Damage
 pub mod Ask
 pub mod Believe

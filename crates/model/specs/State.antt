@@ -12,12 +12,14 @@ use Rattle.model.specs.declared.Memory.the-variants.{Nothing}
 use Rattle.model.specs.declared.Mark.the-variants.{Fine}
 use Rattle.model.specs.declared.Port.{Port}
 
--- 256 words of inputs, 128 calculation values, the fixed area of 528 characters, the parameter block (Scans 2, 18; Write 1)
+-- 256 words of inputs, 128 calculation values, the fixed area of 528 characters, the parameter block; for each of the 32 groups of contacts
+-- a bit each that changed since the group's last reply (Scans 2, 18; Write 1; Request 8.1)
 pub record Areas : Type 0 where
   pub words : List ℕ
   pub values : List ℕ
   pub fixed : List ℕ
   pub block : List ℕ
+  pub changed : List ℕ
 
 -- for each file its records, oldest first (History 4)
 abbrev pub Files : Type 0
@@ -64,7 +66,8 @@ freshCore =
     }
 
 unfoldable pub freshAreas : Config → Areas
-freshAreas c = record { words = replicate 256 0; values = replicate 128 0; fixed = replicate 528 0; block = replicate (c .block) 0 }
+freshAreas c =
+    record { words = replicate 256 0; values = replicate 128 0; fixed = replicate 528 0; block = replicate (c .block) 0; changed = replicate 32 0 }
 
 unfoldable pub freshHistory : History
 freshHistory = record { memory = Nothing; files = replicate 32 []; dropped = replicate 32 0 }

@@ -8,12 +8,13 @@ use Rattle.model.specs.Limits.{writeFrame}
 use Rattle.model.specs.Frame.{Request, unitOf, masterOf, broadcastUnit, heardOf, requestIn}
 use Rattle.model.specs.Outcome.{numberOf, sendingOf, replyFunction, answerNumber}
 use Rattle.model.specs.Config.{Config}
-use Rattle.model.specs.Event.{Local, setWord, setValue, pulses, store, Event, stretch, elapsed, local}
+use Rattle.model.specs.Event.{Local, setWord, setValue, pulses, store, contact, Event, stretch, elapsed, local}
 use Rattle.model.specs.State.{Areas, Inner}
 use Rattle.model.specs.Change.{Change, stays, addedBy, changedBy}
 use Rattle.model.specs.Scan.{Scan, tells, refuses, counts}
 use Rattle.model.specs.Inputs.{Changed, inputsOf, setWordOf, pulsesOf, resetCountOf}
 use Rattle.model.specs.Tables.{tablesOf}
+use Rattle.model.specs.Contacts.{Contacted, withContacts, contactOf, groupsCarried, areasAnew}
 use Rattle.model.specs.Calculations.{calculationsOf, setValueOf}
 use Rattle.model.specs.Control.{Controlled, controlOf, breaks, heldAfter}
 use Rattle.model.specs.Blocks.{WriteResult, Executed, writeOf, executeOf, readOf, dropped, waitsAfter}
@@ -78,10 +79,10 @@ abbrev pub withBroadcast : Core → Bool → Core
 withBroadcast k b = record { clock = k .clock; hold = k .hold; write = k .write; configure = k .configure; error = k .error; broadcast = b }
 
 abbrev pub withWords : Areas → List ℕ → Areas
-withWords a words = record { words = words; values = a .values; fixed = a .fixed; block = a .block }
+withWords a words = record { words = words; values = a .values; fixed = a .fixed; block = a .block; changed = a .changed }
 
 abbrev pub withValues : Areas → List ℕ → Areas
-withValues a values = record { words = a .words; values = values; fixed = a .fixed; block = a .block }
+withValues a values = record { words = a .words; values = values; fixed = a .fixed; block = a .block; changed = a .changed }
 
 unfoldable pub scanned : Core → Areas → Scan → Step
 scanned k a r = record { says = r; action = Rest; core = k; areas = a }
@@ -105,7 +106,7 @@ executed k a r =
       says = r .says;
       action = Rest;
       core = withError (withConfigure k (cond (r .configures) false (k .configure))) (cond (r .clears) false (k .error));
-      areas = record { words = a .words; values = a .values; fixed = r .fixed; block = r .block };
+      areas = record { words = a .words; values = a .values; fixed = r .fixed; block = r .block; changed = a .changed };
     }
 
 -- ---- the functions that see no history (Covers 1)
@@ -242,8 +243,22 @@ stepOf c i lag q =
     (cond (eqb (q .function) 0x20) (internalStep c i lag q)
     (alone i (otherOf c (i .core) (i .areas) q))))
 
+-- once a normal reply is made, the groups that it carried start anew; no other answer clears anything (Request 8.3, 8.4)
+unfoldable pub areasLeft : Config → Request → Answer → Areas → Areas
+areasLeft c q o a = cond (eqb (answerNumber o) 0) (areasAnew (groupsCarried (c .inputs) (a .fixed) q) a) a
+
+abbrev pub startedAnew : Config → Request → Made → Made
+startedAnew c q m =
+    record {
+      answer = m .answer;
+      action = m .action;
+      sent = m .sent;
+      inner = record { core = m .inner .core; areas = areasLeft c q (m .answer) (m .inner .areas); history = m .inner .history };
+      change = m .change;
+    }
+
 unfoldable pub served : Config → Inner → ℕ → Request → Made
-served c i lag q = finished i q (stepOf c i lag q)
+served c i lag q = startedAnew c q (finished i q (stepOf c i lag q))
 
 -- ---- a broadcast
 
@@ -298,6 +313,9 @@ wordMade i r = localMade i (r .says .outcome) (withWords (i .areas) (r .area))
 unfoldable pub valueMade : Inner → Changed → Made
 valueMade i r = localMade i (r .says .outcome) (withValues (i .areas) (r .area))
 
+unfoldable pub contactMade : Inner → Contacted → Made
+contactMade i r = localMade i (r .outcome) (withContacts (i .areas) (r .words) (r .changed))
+
 -- a file that was full sets bit 3, whether it drops a record or not (Frames 10; Request 7.6)
 unfoldable pub notedIn : Stored → Core → Core
 notedIn Kept k = k
@@ -321,6 +339,7 @@ storeMade i f r o =
 unfoldable pub localOf : Config → Inner → Local → Made
 localOf c i (setWord n w) = wordMade i (setWordOf (c .inputs) (i .areas .words) (n .0) w)
 localOf c i (setValue n v) = valueMade i (setValueOf (c .calculations) (i .areas .values) (n .0) v)
+localOf c i (contact n s) = contactMade i (contactOf (c .inputs) (i .areas .words) (i .areas .changed) (n .0) s)
 localOf c i (pulses n p) = wordMade i (pulsesOf (c .inputs) (i .areas .words) (n .0) p)
 localOf c i (store f e vs) =
     storeMade i (f .0) (recordChars (record { event = e; clock = i .core .clock }) vs) (storedAs c (i .history) (f .0) vs)

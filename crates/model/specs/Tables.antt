@@ -43,6 +43,10 @@ tableOf area (suc k) = tableAt area (startOf area k)
 abbrev pub tableNumbers : List ℕ → Table → List ℕ
 tableNumbers area t = part area (t .start) (t .quantity)
 
+-- those of three tables in turn
+abbrev pub numbersInTurn : List ℕ → Table → Table → Table → List ℕ
+numbersInTurn area one two own = tableNumbers area one ++ (tableNumbers area two ++ tableNumbers area own)
+
 -- a table can be sent: it is present, and each of its numbers is equipped (Scans 15)
 unfoldable pub sendable : List ℕ → List ℕ → Table → Bool
 sendable table area t = t .present && every (has table) (tableNumbers area t)
@@ -56,8 +60,12 @@ sendOf table area words one two own =
     cond (sendable table area own && (sendable table area one && sendable table area two))
     (cond (ltb 255 (one .quantity + two .quantity + own .quantity))
     (refuses TooLong)
-    (tells (gather (wordIn words) (tableNumbers area one ++ (tableNumbers area two ++ tableNumbers area own)))))
+    (tells (gather (wordIn words) (numbersInTurn area one two own))))
     (refuses NotValid)
+
+-- the input numbers of a scan of table k, in reply order (Scans 13, 14)
+unfoldable pub scanNumbers : List ℕ → ℕ → List ℕ
+scanNumbers area k = numbersInTurn area (tableOf area (tableOf area k .nibbles / 16)) (tableOf area (tableOf area k .nibbles % 16)) (tableOf area k)
 
 -- ST1, ST2 and the table itself: only the asked table's nibbles are followed (Scans 13, 14)
 unfoldable pub tableScan : List ℕ → List ℕ → List ℕ → ℕ → Scan

@@ -9,6 +9,9 @@ ghost use Rattle.model.specs.Tied.{limitsTold};
 
 pub struct Input(pub u8);
 
+// Contact 8g + i is at place i of group g, which is the input of that number.
+pub struct Contact(pub u8);
+
 pub struct ControlOutput(pub u8);
 
 pub struct SpecialCalculation(pub u8);

@@ -1,27 +1,41 @@
 -- What the events on points and 20h/11h come to, case by case.
 -- Assumes nothing.
 use mathlib.Core.Path.{_≡_, refl}
-use Prim.Native.Nat.{ℕ, _+_, _%_}
+use Prim.Native.Nat.{ℕ, _+_, _%_, _≤_, _<_}
 use native.Mathlib.Omega.{arith}
 use mathlib.Core.List.{List, [], _∷_}
-use mathlib.Core.Bool.{true, false}
-use borrow.Author.Tests.{eq-eqb, ne-eqb}
+use mathlib.Core.Bool.{true, false, not, and-false}
+use borrow.Author.Tests.{eq-eqb, ne-eqb, lt-ltb, le-ltb}
 use lib.ListN.{length, getD, set}
 use Rattle.model.specs.Frame.{Request}
-use Rattle.model.specs.Config.{has, accumulator, hasCalculation}
+use Rattle.model.specs.Config.{has, twoBit, accumulator, hasCalculation}
 use Rattle.model.specs.Scan.{counts}
-use Rattle.model.specs.Inputs.{changes, unchanged, hasAccumulator, setWordOf, pulsesOf, resetCountOf}
+use Rattle.model.specs.Inputs.{changes, unchanged, settable, hasAccumulator, setWordOf, pulsesOf, resetCountOf}
 use Rattle.model.specs.Calculations.{setValueOf}
 use Rattle.model.specs.declared.Outcome.the-variants.{NotValid, WrongCount}
 
 -- ---- events
 
+-- which words an event may set
+module _ (n : ℕ) where
+  pub contacts-made : n < 32 → false ≡ settable n
+  unfolding settable twoBit
+  contacts-made h = simp (lt-ltb n 32 h, and-false (not (accumulator n)))
+
+  pub counts-made : accumulator n ≡ true → false ≡ settable n
+  unfolding settable
+  counts-made e = simp e
+
+  pub word-settable : 32 ≤ n → accumulator n ≡ false → true ≡ settable n
+  unfolding settable twoBit
+  word-settable h e = simp (e, le-ltb n 32 h)
+
 module _ (table words : List ℕ) (n v : ℕ) where
-  pub word-set : has table n ≡ true → accumulator n ≡ false → setWordOf table words n v ≡ changes [] (set words n v)
+  pub word-set : has table n ≡ true → settable n ≡ true → setWordOf table words n v ≡ changes [] (set words n v)
   unfolding setWordOf
   word-set e f = simp (e, f)
 
-  pub word-other : has table n ≡ true → accumulator n ≡ true → setWordOf table words n v ≡ unchanged NotValid words
+  pub word-other : has table n ≡ true → settable n ≡ false → setWordOf table words n v ≡ unchanged NotValid words
   unfolding setWordOf
   word-other e f = simp (e, f)
 

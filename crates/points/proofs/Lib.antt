@@ -2,6 +2,8 @@
 pub mod NumberLaws
 pub mod AnswerLaws
 pub mod ChangeLaws
+pub mod ContactLaws
+pub mod AnewLaws
 pub mod MeansLaws
 pub mod Fits
 pub mod Unique

@@ -1,24 +1,25 @@
 -- What a unit's memory means after an event on a point that met its promise: the point's area as the model has it, all else as it was.
 -- Assumes nothing.
 use mathlib.Core.Path.{_≡_, refl, ap, _∙_}
-use Prim.Native.Nat.{ℕ, _+_, _%_, _<_}
+use Prim.Native.Nat.{ℕ, _+_, _*_, _/_, _%_, _<_}
 use native.Mathlib.Omega.{arith}
-use mathlib.Core.List.{List, []}
-use mathlib.Core.Bool.{Bool, true, false, cond}
+use mathlib.Core.List.{List, [], _∷_}
+use mathlib.Core.Bool.{Bool, true, false, cond, _&&_}
 use lib.ListN.{length, getD, set}
-use lib.Dec.{eqb, lit<}
+use lib.Dec.{eqb, ltb, lit<}
 use Rattle.model.proofs.Conditions.{by-bool, by-eqb, and-right}
 use Rattle.model.specs.Outcome.{numberOf}
 use Rattle.model.specs.Frame.{Request}
 use Rattle.model.specs.Config.{has, accumulator, hasCalculation}
 use Rattle.model.specs.Scan.{Fills}
-use Rattle.model.specs.Inputs.{Changed, changes, unchanged, hasAccumulator, setWordOf, pulsesOf, resetCountOf}
+use Rattle.model.specs.Inputs.{Changed, changes, unchanged, settable, hasAccumulator, setWordOf, pulsesOf, resetCountOf}
 use Rattle.model.specs.Calculations.{setValueOf}
+use Rattle.model.specs.Contacts.{Contacted, wordAfter, changedAfter, contactOf}
 use Rattle.model.specs.declared.Outcome.{Outcome}
-use Rattle.model.specs.declared.Outcome.the-variants.{NotValid, WrongCount}
+use Rattle.model.specs.declared.Outcome.the-variants.{Done, NotValid, WrongCount}
 use Rattle.model.specs.declared.Filled.{Filled}
-use Rattle.layout.specs.Unit.{unitSizes, unitLong, inputsRegion, configFrom, unitFrom, unitIn, configIn, setWords, setValues, putIn, putWord, putValue}
-use Rattle.layout.proofs.UnitLaws.{length-put-in, region-size, word-written, value-written}
+use Rattle.layout.specs.Unit.{Unit, unitSizes, unitLong, inputsRegion, wordsRegion, changedRegion, configFrom, unitFrom, unitIn, configIn, setWords, setValues, setChanged, setContacts, putIn, putWord, putValue, putChanged}
+use Rattle.layout.proofs.UnitLaws.{length-put-in, region-size, word-written, value-written, changed-written}
 use Rattle.points.specs.Answer.{Sets}
 use Rattle.points.proofs.NumberLaws.{has-below, calculation-below}
 use Rattle.points.proofs.ChangeLaws.{word-set, word-other, word-missing, pulses-added, pulses-missing, value-set, value-missing, reset-miscounted, reset-missing, reset-done}
@@ -82,9 +83,9 @@ module _ (u : List ℕ) (long : length u ≡ unitLong) where
         → unitIn v ≡ setWords (unitIn u) (setWordOf (configIn u .inputs) (unitIn u .words) n w .area)
     set-word-means p =
         by-bool (has (configIn u .inputs) n)
-        (λ e. by-bool (accumulator n)
-        (λ f. words-kept NotValid refl p (word-other _ _ n w e f))
-        (λ f. word-done n w [] (input-below n e) p (word-set _ _ n w e f)))
+        (λ e. by-bool (settable n)
+        (λ f. word-done n w [] (input-below n e) p (word-set _ _ n w e f))
+        (λ f. words-kept NotValid refl p (word-other _ _ n w e f)))
         (λ e. words-kept NotValid refl p (word-missing _ _ n w e))
 
     pub pulses-means : Sets (pulsesOf (configIn u .inputs) (unitIn u .words) n w) u (putWord u n ((getD (unitIn u .words) n 0 + w) % 65536)) v r
@@ -110,3 +111,35 @@ module _ (u : List ℕ) (long : length u ≡ unitLong) where
       (λ e. word-done _ 0 (q .body) (input-below _ (accumulator-has _ _ e)) p (reset-done _ _ q h e))
       (λ e. words-kept NotValid refl p (reset-missing _ _ q h e)))
       (λ h. words-kept WrongCount refl p (reset-miscounted _ _ q h))
+
+-- ---- a contact
+
+module _ (u : List ℕ) (long : length u ≡ unitLong) (n s : ℕ) (small : n < 256) where
+  abbrev ends : Contacted
+  ends = contactOf (configIn u .inputs) (unitIn u .words) (unitIn u .changed) n s
+
+  abbrev word : ℕ
+  word = wordAfter (getD (unitIn u .words) (n / 8) 0) (getD (unitIn u .changed) (n / 8) 0) (n % 8) s
+
+  abbrev bits : ℕ
+  bits = changedAfter (getD (unitIn u .words) (n / 8) 0) (getD (unitIn u .changed) (n / 8) 0) (n % 8) s
+
+  abbrev given : List ℕ
+  given = putChanged (putWord u (n / 8) word) (n / 8) bits
+
+  pub contact-long : {v : List ℕ} (r : Outcome) → v ≡ cond (eqb (numberOf r) 0) given u → length v ≡ length u
+  contact-long r e =
+      ap length e
+      ∙ long-either (eqb (numberOf r) 0) u given (length-put-in (putWord u (n / 8) word) changedRegion (n / 8) (bits ∷ []) ∙ length-put-in u wordsRegion (2 * (n / 8)) _)
+
+  given-means : unitIn given ≡ setContacts (unitIn u) (set (unitIn u .words) (n / 8) word) (set (unitIn u .changed) (n / 8) bits)
+  given-means =
+      changed-written (putWord u (n / 8) word) (n / 8) bits (omega arith)
+      ∙ ap (λ (x : Unit). setChanged x (set (x .changed) (n / 8) bits)) (word-written u long (n / 8) word (omega arith))
+
+  pub contact-means : {v : List ℕ} {r : Outcome} → r ≡ ends .outcome → v ≡ cond (eqb (numberOf r) 0) given u → unitIn v ≡ setContacts (unitIn u) (ends .words) (ends .changed)
+  unfolding contactOf unitFrom
+  contact-means {r = r} e f =
+      by-bool (has (configIn u .inputs) (n / 8) && ltb s 2)
+      (λ z. let o : r ≡ Done = e ∙ rw z in rw (z, f, o) given-means)
+      (λ z. let o : r ≡ NotValid = e ∙ rw z in rw (z, f, o) refl)

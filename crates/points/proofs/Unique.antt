@@ -1,6 +1,6 @@
 -- Two ends of a call that meet its contract are equal: what each public function promises says everything. Assumes nothing.
 use mathlib.Core.Path.{_≡_, sym, ap, _∙_}
-use Rattle.chars.specs.One.{One}
+use Rattle.chars.specs.One.{One, OneWhere}
 use Prim.Native.Nat.{ℕ}
 use mathlib.Core.List.{List}
 use mathlib.Core.Bool.{cond}
@@ -16,7 +16,13 @@ use Rattle.points.proofs.changes.set_word.Reads as set-word
 use Rattle.points.proofs.changes.pulses.Reads as pulses
 use Rattle.points.proofs.changes.set_value.Reads as set-value
 use Rattle.points.proofs.changes.reset_count.Reads as reset-count
+use Rattle.points.proofs.contacts.contact.Reads as contact
 use Rattle.points.proofs.equipment.refused.Reads as refused
+use lib.ListN.{length}
+use Rattle.chars.specs.Word.{Characters}
+use Rattle.layout.specs.Unit.{unitLong}
+use Rattle.layout.proofs.ContactLaws.{one-anew}
+use Rattle.points.proofs.contacts.start_anew.Reads as start-anew
 
 -- what an outcome left of a memory
 left-by : (u w : List ℕ) {x y : List ℕ} {r s : Outcome} → x ≡ cond (eqb (numberOf r) 0) w u → y ≡ cond (eqb (numberOf s) 0) w u → r ≡ s → x ≡ y
@@ -59,5 +65,15 @@ one-reset-count-unit κ a x y s t p q = one-reset _ _ _ p q .2
 pub one-reset-count-reply : One reset-count.Post (λ κ r s. s .1 .1 .1 .0 .now)
 one-reset-count-reply κ a x y s t p q = one-reset _ _ _ p q .0
 
+pub one-contact : One contact.Post (λ κ r s. r)
+one-contact κ a x y s t p q = p .0 ∙ sym (q .0)
+
+pub one-contact-unit : One contact.Post (λ κ r s. s .0 .now)
+one-contact-unit κ a x y s t p q = left-by _ _ (p .1) (q .1) (p .0 ∙ sym (q .0))
+
 pub one-refused : One refused.Post (λ κ r s. r)
 one-refused κ a x y s t p q = p ∙ sym q
+
+-- the groups that start anew, for a memory that is characters, as long as a unit
+pub one-start-anew-unit : OneWhere (λ κ a s. (length (a .0 .now) ≡ unitLong) × Characters (s .0 .now)) start-anew.Post (λ κ r s. s .0 .now)
+one-start-anew-unit κ a x y s t g h p q = one-anew _ _ _ _ (g .0) (g .1) (h .1) p q

@@ -1,5 +1,6 @@
 // Events that change one point, and the reset of a count by 20h/11h.
 use super::equipment::is_accumulator;
+use super::equipment::is_settable;
 use super::equipment::refused;
 use layout::UNIT;
 use layout::has_calculation;
@@ -41,11 +42,11 @@ pub fn set_word(unit: &mut [u8; UNIT], number: Input, word: u16) -> Outcome
         (now (unit .entry)) (putWord (now (unit .entry)) (number .0) word) (now (unit .exit)) r ⌝ }
 {
     if has_input(unit, number) {
-        if is_accumulator(number) {
-            return Outcome::NotValid;
+        if is_settable(number) {
+            put_word(unit, number, word);
+            return Outcome::Done;
         }
-        put_word(unit, number, word);
-        Outcome::Done
+        Outcome::NotValid
     } else {
         Outcome::NotValid
     }

@@ -15,7 +15,7 @@ use Rattle.model.specs.Config.{Config}
 use Rattle.model.specs.State.{Inner}
 use Rattle.model.specs.Control.{breaks}
 use Rattle.model.specs.Blocks.{writeOf}
-use Rattle.model.specs.Step.{Made, Stepped, scanned, written, answered, settled, finished, alone, brokenOff, stepOf, served, framed}
+use Rattle.model.specs.Step.{Made, Stepped, scanned, written, answered, settled, finished, alone, brokenOff, stepOf, areasLeft, served, framed}
 use Rattle.model.specs.declared.Outcome.the-variants.{WriteTaken}
 use Rattle.model.specs.declared.Action.the-variants.{Rest}
 use Rattle.model.specs.declared.Answer.the-variants.{Ended}
@@ -103,7 +103,7 @@ ahead-taken u v w block area entry lag f s {body} r n d function command own b w
           makes-renumbered _ u w block only
           (framed-own (configIn u) i lag s (portIn (numbersIn u) .mark) (portIn (numbersIn u)) f n d refl own
           (record {
-            makes = makes-served (configIn u) i lag q _ long h (a .files) (replies-none entry WriteTaken _ refl) (readable-written _ (written-readable (h .kept))) refl;
+            makes = makes-served (configIn u) i lag q _ long h (a .files) (replies-none entry WriteTaken _ refl) (readable-written _ (written-readable (h .kept))) refl (unfold areasLeft in refl);
             changed = a .changed;
           })),
       unshifted-numbers u _ only .steady,

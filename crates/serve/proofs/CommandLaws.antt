@@ -152,7 +152,7 @@ module _ (i : Inner) {m : Stepped} {a : Areas} {p : Port} {ls entry exit : List 
   pub acts-executed : {x : blocks.Executed} {u v bl : List ℕ} (f : Executed) → x .says .chars ≡ [] → m ≡ alone i (executed (i .core) (i .areas) x) → ExecutesAs u x v bl f → exit ≡ entry
       → r ≡ record { outcome = f .outcome; action = Rest; count = 0 }
       → Kept (withError (withConfigure (i .core) (cond (f .configures) false (i .core .configure))) (cond (f .clears) false (i .core .error))) (i .history .memory) p ls
-      → a ≡ record { words = i .areas .words; values = i .areas .values; fixed = x .fixed; block = bl }
+      → a ≡ record { words = i .areas .words; values = i .areas .values; fixed = x .fixed; block = bl; changed = i .areas .changed }
       → StepPromise m a p ls entry exit r
   unfolding alone executed
   acts-executed f bare z w x e k y =
@@ -230,7 +230,7 @@ module _ (u : List ℕ) where
   words-left block v e = ap (λ (x : Unit). areasBy x block) e
 
   pub fixed-left : (block v : List ℕ) {fs : List ℕ} → unitIn v ≡ setFixed (unitIn u) fs
-      → areasIn v block ≡ record { words = unitIn u .words; values = unitIn u .values; fixed = fs; block = block }
+      → areasIn v block ≡ record { words = unitIn u .words; values = unitIn u .values; fixed = fs; block = block; changed = unitIn u .changed }
   fixed-left block v e = ap (λ (x : Unit). areasBy x block) e
 
   -- 20h/11h

@@ -8,6 +8,7 @@ pub mod BroadcastLaws
 pub mod StepLaws
 pub mod TellingLaws
 pub mod ServedLaws
+pub mod ToldLaws
 pub mod StretchLaws
 pub mod AheadLaws
 pub mod PairedLaws

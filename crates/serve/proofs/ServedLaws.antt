@@ -13,9 +13,10 @@ use Rattle.model.specs.Outcome.{sendingOf}
 use Rattle.model.specs.Config.{Config}
 use Rattle.model.specs.State.{Areas, Files, Inner}
 use Rattle.model.specs.Change.{applied, changedBy}
-use Rattle.model.specs.Step.{Step as StepOf, Stepped, said, sentAs, answered, statusOf, settled, stepOf, finished, served}
+use Rattle.model.specs.Step.{Step as StepOf, Stepped, said, sentAs, answered, statusOf, settled, stepOf, finished, areasLeft, served}
 use Rattle.model.specs.Port.{portStatus, sentChars}
 use Rattle.model.specs.declared.Outcome.{Outcome}
+use Rattle.model.specs.declared.Answer.the-variants.{Ended}
 use Rattle.model.specs.declared.Core.{Core}
 use Rattle.model.specs.declared.Mark.{Mark}
 use Rattle.model.specs.declared.Reply.{Reply}
@@ -89,14 +90,14 @@ step-heard n z e =
       tame = z .tame;
     }
 
-pub makes-served : (c : Config) (i : Inner) (lag : ℕ) (q : Request) (mark : Mark) {areas : Areas} {fs : Files} {p : Port} {ks ls entry mid exit : List ℕ} {r : Step} {x : MadeOf} {n : ℕ}
+pub makes-served : (c : Config) (i : Inner) (lag : ℕ) (q : Request) (mark : Mark) {areas left : Areas} {fs : Files} {p : Port} {ks ls entry mid exit : List ℕ} {r : Step} {x : MadeOf} {n : ℕ}
     → longestReply ≤ length entry → StepPromise (stepOf c i lag q) areas p ks entry mid r → fs ≡ applied (stepOf c i lag q .change) (i .history .files)
     → Replies mid exit (r .outcome) (headOf (statusOf (i .core)) (q .address) (q .function) (r .outcome) (r .count) (portStatus mark)) n
     → Written (settled q (r .outcome) (coreIn ks)) (memoryIn ks) (portIn ks) ls
-    → x ≡ record { outcome = r .outcome; action = r .action; sent = n }
-    → MadePromise (served c i lag q) mark areas fs p ls entry exit x
+    → x ≡ record { outcome = r .outcome; action = r .action; sent = n } → left ≡ areasLeft c q (Ended (r .outcome)) areas
+    → MadePromise (served c i lag q) mark left fs p ls entry exit x
 unfolding served finished changedBy
-makes-served c i lag q mark {entry = entry} {mid} {exit} {r} {n = n} l a fl f k e =
+makes-served c i lag q mark {entry = entry} {mid} {exit} {r} {n = n} l a fl f k e b =
     let p : StepOf = stepOf c i lag q .step in
     let f′ : Replies mid exit (p .says .outcome) (headOf (statusOf (i .core)) (q .address) (q .function) (p .says .outcome) (length (p .says .chars)) (portStatus mark)) n = rw (a .counted, a .ended) at f in
     let g = sent-as (i .core) q (p .says .outcome) mark entry mid exit (p .says .chars) n (a .written) l (a .tame) f′ in
@@ -109,6 +110,6 @@ makes-served c i lag q mark {entry = entry} {mid} {exit} {r} {n = n} l a fl f k 
       small = g .3;
       written = g .1;
       kept = rw (a .ended, a .kept .means .core, a .kept .means .memory, a .kept .means .port) at k;
-      areas = a .areas;
+      areas = (rw (a .ended) at b) ∙ ap (areasLeft c q (Ended (p .says .outcome))) (a .areas);
       files = fl;
     })

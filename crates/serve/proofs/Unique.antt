@@ -36,6 +36,7 @@ kept-same c l m e a n =
       area = a i;
       counts = n i;
       dropped = ap (λ (s : State). s .inner .history .dropped) e i;
+      changed = ap (λ (s : State). s .inner .areas .changed) e i;
     }
 
 -- what is owned follows from the unit that it means, as its memory is characters
@@ -43,7 +44,7 @@ pub owned-same : (y z : Owned) → length (y .unit) ≡ unitLong → length (z .
     → standing y ≡ true → standing z ≡ true → unitIn (y .unit) .layout ≡ unitIn (z .unit) .layout → configIn (y .unit) ≡ configIn (z .unit) → keptIn y ≡ keptIn z → y ≡ z
 owned-same y z l m p q a b t c e =
     let n = readable-one (numbersIn (y .unit)) (numbersIn (z .unit)) (stands-readable y a) (stands-readable z b) (ap (λ (k : Kept). k .core) e) (ap (λ (k : Kept). k .memory) e) (ap (λ (k : Kept). k .port) e) in
-    let u = unit-one (y .unit) (z .unit) l m p q (λ i. record { layout = t i; config = c i; numbers = n i; words = e i .words; values = e i .results; fixed = e i .fixed; counts = e i .counts; dropped = e i .dropped }) in
+    let u = unit-one (y .unit) (z .unit) l m p q (λ i. record { layout = t i; config = c i; numbers = n i; words = e i .words; values = e i .results; fixed = e i .fixed; counts = e i .counts; dropped = e i .dropped; changed = e i .changed }) in
     λ i. record { unit = u i; block = e i .block; area = e i .area }
 
 pub ended-same : (o p : Outcome) → Ended o ≡ Ended p → o ≡ p

@@ -5,6 +5,7 @@ use super::commands::returned;
 use super::ending::finish;
 use super::ending::port_status_in;
 use super::ending::settle;
+use super::ending::start_anew;
 use super::ending::status_in;
 use super::step::Step;
 use super::step::plain_step;
@@ -122,6 +123,7 @@ pub fn served<'a>(
     port::hear(unit, Frame::SHORTEST + frame.count as usize, outcome);
     let sent = finish(status, frame, outcome, step.count, port, buffer);
     settle(unit, frame, outcome);
+    start_anew(unit, frame, outcome);
     Made {
         outcome: outcome,
         action: action,

@@ -1,5 +1,5 @@
-// How every frame for this unit ends, whatever its function was: the reply laid round its data, and the core settled, its kept numbers
-// where they lie.
+// How every frame for this unit ends, whatever its function was: the reply laid round its data, the core settled, its kept numbers
+// where they lie, and the contacts that were told.
 use super::Made;
 use frames::outcomes::is_answered;
 use frames::outcomes::number;
@@ -27,7 +27,9 @@ ghost use Rattle.model.specs.Blocks.{dropped};
 ghost use Rattle.model.specs.Outcome.{numberOf, sendingOf};
 ghost use Rattle.model.specs.Step.{answered, statusOf, withWrite, withBroadcast, settled};
 ghost use Rattle.layout.specs.Numbers.{coreIn, memoryIn, portIn};
-ghost use Rattle.layout.specs.Unit.{numbersIn};
+ghost use Rattle.model.specs.Contacts.{groupsCarried};
+ghost use Rattle.layout.specs.Unit.{unitIn, configIn, numbersIn};
+ghost use Rattle.layout.specs.Contacts.{Anew};
 ghost use Rattle.serve.specs.Ends.{Replies, headOf, statusAt};
 ghost use Rattle.serve.specs.Promises.{NumbersPromise};
 
@@ -135,4 +137,21 @@ pub fn settle(unit: &mut [u8; UNIT], frame: Frame, outcome: Outcome)
 {
     settle_write(unit, frame, outcome);
     settle_broadcast(unit, outcome);
+}
+
+// ---- the contacts
+
+// A normal reply to a scan has carried its groups of contacts: they start anew here and nowhere else.
+pub fn start_anew(unit: &mut [u8; UNIT], frame: Frame, outcome: Outcome)
+    ensures { λ _. ⌜ Anew (now (unit .entry)) (now (unit .exit))
+        (cond (eqb (numberOf outcome) 0) (groupsCarried (configIn (now (unit .entry)) .inputs) (unitIn (now (unit .entry)) .fixed) (asked frame [])) []) ⌝ }
+{
+    if number(outcome) == 0 {
+        let function = frame.function;
+        match function {
+            0x00 => inputs::start_anew(unit, frame.command),
+            0x0A => tables::start_anew(unit, frame.command),
+            _ => {}
+        }
+    }
 }

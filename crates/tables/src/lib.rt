@@ -1,4 +1,6 @@
 // Function 0Ah: the scan of a table, with the two that its nibbles name.
+mod told;
+
 use layout::UNIT;
 use model::Filled;
 use model::Frame;
@@ -7,6 +9,7 @@ use model::Outcome;
 use model::Reply;
 use model::Table;
 use points::refused;
+pub use told::start_anew;
 ghost use mathlib.Core.Path.{_≡_};
 ghost use Prim.Native.Nat.{_+_, _*_, _-_, _≤_, _<_, max};
 ghost use mathlib.Core.Bool.{true};

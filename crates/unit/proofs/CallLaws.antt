@@ -10,8 +10,8 @@ use Rattle.model.specs.Config.{Config}
 use Rattle.model.proofs.Conditions.{by-cond}
 use Rattle.model.specs.State.{State}
 use Rattle.model.specs.Fits.{fits}
-use Rattle.model.specs.Event.{Local, setWord, setValue, pulses, store, Event, stretch, elapsed, local}
-use Rattle.model.specs.Step.{quiet, elapsedMade, localMade, wordMade, valueMade, storeMade, localOf, makeOf}
+use Rattle.model.specs.Event.{Local, setWord, setValue, pulses, store, contact, Event, stretch, elapsed, local}
+use Rattle.model.specs.Step.{quiet, elapsedMade, localMade, wordMade, valueMade, contactMade, storeMade, localOf, makeOf}
 use Rattle.model.specs.Port.{sentChars}
 use Rattle.model.specs.Run.{Result, Entry, short, turnedAway, shows, decided, resultOf, nextOf, changeOf, entryOf, afterFrom, traceFrom}
 use Rattle.model.specs.declared.Answer.{Answer}
@@ -52,10 +52,11 @@ pub record Still (x : Result) : Type 0 where
   pub reply : x .reply ≡ []
 
 still-local : (c : Config) (s : State) (e : Local) → Still (shows (s .port) (localOf c (s .inner) e))
-unfolding shows localOf wordMade valueMade localMade storeMade quiet sentChars
+unfolding shows localOf wordMade valueMade contactMade localMade storeMade quiet sentChars
 still-local c s (setWord i w) = record { action = refl; reply = refl }
 still-local c s (setValue i v) = record { action = refl; reply = refl }
 still-local c s (pulses i p) = record { action = refl; reply = refl }
+still-local c s (contact i p) = record { action = refl; reply = refl }
 still-local c s (store f t vs) = record { action = refl; reply = refl }
 
 still-shown : (c : Config) (s : State) (e : Event) → NoStretch e → Still (shows (s .port) (makeOf c (s .inner) e))
@@ -92,7 +93,7 @@ next-laid : (c : Config) (k l : Kept) (e : Event) → stateOf c l ≡ nextOf c (
 unfolding nextLaid keptAs
 next-laid c k l e n ch =
     λ i. keptOf (n i .inner .core) (n i .inner .history .memory) (n i .port) (n i .inner .areas .words) (n i .inner .areas .values) (n i .inner .areas .fixed)
-    (n i .inner .areas .block) (ch .moved i) (ch .counted i) (n i .inner .history .dropped)
+    (n i .inner .areas .block) (ch .moved i) (ch .counted i) (n i .inner .history .dropped) (n i .inner .areas .changed)
 
 -- and so what a run of them shows and leaves
 pub calls-laid : (c : Config) {k l : Kept} {es : List Event} {xs : List Result} → Calls c k es xs l → (xs ≡ answersLaid (packed c) c k es) × (l ≡ afterLaid (packed c) c k es)

@@ -6,6 +6,7 @@ use mathlib.Core.Bool.{true, false}
 use Rattle.model.specs.Config.{Config}
 use Rattle.model.specs.State.{Inner}
 use Rattle.model.specs.Inputs as points
+use Rattle.model.specs.Contacts.{Contacted}
 use Rattle.model.specs.History.{recordChars, sparedIn, storedAs}
 use Rattle.model.specs.Event.{store, Event, elapsed, local}
 use Rattle.model.specs.Change.{applied, droppedAfter, addedBy, changedBy}
@@ -17,6 +18,7 @@ use Rattle.model.specs.Step.{
   localMade,
   wordMade,
   valueMade,
+  contactMade,
   notedIn,
   storeMade,
   localOf,
@@ -72,20 +74,28 @@ module _ (c : Config) (k : Kept) where
     module _ (b : fits c (stateOf c k) ≡ true) (p : (a : Answer) → portAfter (k .port) e a ≡ k .port)
         (m : points.Changed) {r : Outcome} (w : r ≡ m .says .outcome) where
       pub heeds-word : makeOf c (stateOf c k .inner) e ≡ wordMade (stateOf c k .inner) m
-          → Heeds c e k (keptOf (k .core) (k .memory) (k .port) (m .area) (k .results) (k .fixed) (k .block) (k .area) (k .counts) (k .dropped)) (Ended r)
+          → Heeds c e k (keptOf (k .core) (k .memory) (k .port) (m .area) (k .results) (k .fixed) (k .block) (k .area) (k .counts) (k .dropped) (k .changed)) (Ended r)
       unfolding moves wordMade localMade quiet
       heeds-word z =
           heeds-made (wordMade (stateOf c k .inner) m) b z (ap Ended w) (rw p) (still c (k .area) (k .counts))
 
       pub heeds-value : makeOf c (stateOf c k .inner) e ≡ valueMade (stateOf c k .inner) m
-          → Heeds c e k (keptOf (k .core) (k .memory) (k .port) (k .words) (m .area) (k .fixed) (k .block) (k .area) (k .counts) (k .dropped)) (Ended r)
+          → Heeds c e k (keptOf (k .core) (k .memory) (k .port) (k .words) (m .area) (k .fixed) (k .block) (k .area) (k .counts) (k .dropped) (k .changed)) (Ended r)
       unfolding moves valueMade localMade quiet
       heeds-value z =
           heeds-made (valueMade (stateOf c k .inner) m) b z (ap Ended w) (rw p) (still c (k .area) (k .counts))
 
+    -- a contact's state
+    pub heeds-contact : fits c (stateOf c k) ≡ true → ((a : Answer) → portAfter (k .port) e a ≡ k .port) → (m : Contacted) {r : Outcome} → r ≡ m .outcome
+        → makeOf c (stateOf c k .inner) e ≡ contactMade (stateOf c k .inner) m
+        → Heeds c e k (keptOf (k .core) (k .memory) (k .port) (m .words) (k .results) (k .fixed) (k .block) (k .area) (k .counts) (k .dropped) (m .changed)) (Ended r)
+    unfolding moves contactMade localMade quiet
+    heeds-contact b p m w z =
+        heeds-made (contactMade (stateOf c k .inner) m) b z (ap Ended w) (rw p) (still c (k .area) (k .counts))
+
   -- time moves the core and the port
   pub heeds-time : (ms : ℕ) {core : Core} {port : Port} → fits c (stateOf c k) ≡ true → core ≡ coreAfter (k .core) ms → port ≡ silentAfter (k .port) ms
-      → Heeds c (elapsed ms) k (keptOf core (k .memory) port (k .words) (k .results) (k .fixed) (k .block) (k .area) (k .counts) (k .dropped)) (Ended Done)
+      → Heeds c (elapsed ms) k (keptOf core (k .memory) port (k .words) (k .results) (k .fixed) (k .block) (k .area) (k .counts) (k .dropped) (k .changed)) (Ended Done)
   unfolding short makeOf elapsedMade quiet moves portAfter
   heeds-time ms b x y =
       heeds-made (elapsed ms) refl (elapsedMade (stateOf c k .inner) ms) b refl refl (rw (x, y)) (still c (k .area) (k .counts))
@@ -98,7 +108,7 @@ module _ (c : Config) (k : Kept) where
       → dropped ≡ droppedAfter (addedBy r (f .0) (sparedIn (k .memory) (f .0)) (recordChars (record { event = event; clock = k .core .clock }) vs)) (k .dropped)
       → Shifted c (addedBy r (f .0) (sparedIn (k .memory) (f .0)) (recordKept (record { event = event; clock = k .core .clock }) vs)) (k .area) (k .counts) area counts
       → core ≡ notedIn r (k .core)
-      → Heeds c (local (store f event vs)) k (keptOf core (k .memory) (k .port) (k .words) (k .results) (k .fixed) (k .block) area counts dropped) (Storing r)
+      → Heeds c (local (store f event vs)) k (keptOf core (k .memory) (k .port) (k .words) (k .results) (k .fixed) (k .block) area counts dropped (k .changed)) (Storing r)
   unfolding short makeOf localOf storeMade changedBy moves portAfter
   heeds-store f event vs {r} b o fl d w x =
       let i : Inner = stateOf c k .inner in

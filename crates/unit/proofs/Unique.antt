@@ -17,6 +17,7 @@ use Rattle.serve.proofs.Unique.{kept-same, owned-same, ended-same}
 use Rattle.unit.specs.Events.{Heeds, EventPromise}
 use Rattle.unit.specs.Fresh.{FreshPromise}
 use Rattle.unit.proofs.local.set_word.Reads as set-word
+use Rattle.unit.proofs.local.contact.Reads as contact
 use Rattle.unit.proofs.local.pulses.Reads as pulses
 use Rattle.unit.proofs.local.set_value.Reads as set-value
 use Rattle.unit.proofs.local.store_record.Reads as store-record
@@ -51,6 +52,12 @@ one-set-word κ a x y s t g h p q = ended-same x y (one-event _ _ _ _ (g .0) (g 
 
 pub one-set-word-unit : OneWhere (λ κ a s. (length (a .0 .now) ≡ unitLong) × Characters (s .0 .now)) set-word.Post (λ κ r s. s .0 .now)
 one-set-word-unit κ a x y s t g h p q = ap (λ (z : Owned). z .unit) (one-event _ _ _ _ (g .0) (g .1) (h .1) p q .1)
+
+pub one-contact : OneWhere (λ κ a s. (length (a .0 .now) ≡ unitLong) × Characters (s .0 .now)) contact.Post (λ κ r s. r)
+one-contact κ a x y s t g h p q = ended-same x y (one-event _ _ _ _ (g .0) (g .1) (h .1) p q .0)
+
+pub one-contact-unit : OneWhere (λ κ a s. (length (a .0 .now) ≡ unitLong) × Characters (s .0 .now)) contact.Post (λ κ r s. s .0 .now)
+one-contact-unit κ a x y s t g h p q = ap (λ (z : Owned). z .unit) (one-event _ _ _ _ (g .0) (g .1) (h .1) p q .1)
 
 pub one-pulses : OneWhere (λ κ a s. (length (a .0 .now) ≡ unitLong) × Characters (s .0 .now)) pulses.Post (λ κ r s. r)
 one-pulses κ a x y s t g h p q = ended-same x y (one-event _ _ _ _ (g .0) (g .1) (h .1) p q .0)

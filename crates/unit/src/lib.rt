@@ -3,6 +3,7 @@ mod local;
 mod start;
 mod time;
 
+pub use local::contact;
 pub use local::pulses;
 pub use local::set_value;
 pub use local::set_word;

@@ -71,6 +71,9 @@ extern "C" {
     fn osturdam_set_word(
         unit: &mut [u8; UNIT], block: *const u8, length: u64, records: *const u8, room: u64,
         input: u8, word: u16) -> u8;
+    fn osturdam_contact(
+        unit: &mut [u8; UNIT], block: *const u8, length: u64, records: *const u8, room: u64,
+        contact: u8, state: u8) -> u8;
     fn osturdam_pulses(
         unit: &mut [u8; UNIT], block: *const u8, length: u64, records: *const u8, room: u64,
         input: u8, count: u16) -> u8;
@@ -277,6 +280,11 @@ impl Unit {
     pub fn set_word(&mut self, lent: Lent, input: u8, word: u16) -> u8 {
         let records = place(&self.records[..lent.records]);
         call!(osturdam_set_word, self, lent, records, input, word)
+    }
+
+    pub fn contact(&mut self, lent: Lent, contact: u8, state: u8) -> u8 {
+        let records = place(&self.records[..lent.records]);
+        call!(osturdam_contact, self, lent, records, contact, state)
     }
 
     pub fn pulses(&mut self, lent: Lent, input: u8, count: u16) -> u8 {

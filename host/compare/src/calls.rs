@@ -1,7 +1,7 @@
 //! Calls of one function: whole and damaged, with right and wrong data, about the state as it stands.
 
 use crate::aims::Aim;
-use crate::board::header::{self, FILES, HOLD_MS, LAG_MS, REPLY, SILENT_MS};
+use crate::board::header::{self, FILES, GROUPS, HOLD_MS, LAG_MS, REPLY, SILENT_MS};
 use crate::both;
 use crate::event::Event;
 use crate::frames::{damaged, Draft};
@@ -19,6 +19,7 @@ pub fn call(rng: &mut Rng, pair: &Pair, aim: Aim) -> Event {
     match aim {
         Aim::Elapsed => Event::Elapsed(elapsed(rng, pair)),
         Aim::SetWord => Event::Word(number(rng, &c.inputs), rng.word()),
+        Aim::Contact => contact(rng, c),
         Aim::SetValue => Event::Value(number(rng, &c.calculations), rng.long()),
         Aim::Pulses => Event::Pulses(accumulator(rng, c), count(rng)),
         Aim::Store => store(rng, c),
@@ -57,6 +58,25 @@ fn accumulator(rng: &mut Rng, c: &Config) -> u8 {
         Some(n) if rng.percent(85) => n,
         _ => number(rng, &c.inputs),
     }
+}
+
+/// Mostly a contact of an equipped group, often one of the first of it, so that the same one changes again.
+fn contact(rng: &mut Rng, c: &Config) -> Event {
+    let start = rng.below(GROUPS) as u8;
+    let found = (0..GROUPS as u8)
+        .map(|i| (start + i) % GROUPS as u8)
+        .find(|&g| c.inputs[usize::from(g)]);
+    let any = rng.below(8) as u8;
+    let number = match found {
+        Some(group) if rng.percent(90) => 8 * group + rng.pick(&[0, 0, 1, 7, any]),
+        _ => rng.byte(),
+    };
+    let state = if rng.percent(4) {
+        rng.pick(&[2, 3, 255])
+    } else {
+        rng.below(2) as u8
+    };
+    Event::Contact(number, state)
 }
 
 fn count(rng: &mut Rng) -> u16 {

@@ -19,9 +19,18 @@ pub enum Change {
     Hold(Hold),
     Write(Option<Write>),
     Memory(Option<HistoryReply>),
-    Bits { bit7: bool, bit3: bool, bit2: bool },
-    Port { silence: u16, mark: u8 },
+    Bits {
+        bit7: bool,
+        bit3: bool,
+        bit2: bool,
+    },
+    Port {
+        silence: u16,
+        mark: u8,
+    },
     Word(u8, u16),
+    /// The contacts of a group that have changed since its last reply.
+    Changed(u8, u8),
     Value(u8, u32),
     Fixed(usize, Vec<u8>),
     Block(usize, Vec<u8>),
@@ -40,6 +49,7 @@ pub enum Event {
     },
     Elapsed(u32),
     Word(u8, u16),
+    Contact(u8, u8),
     Pulses(u8, u16),
     Value(u8, u32),
     Store {
@@ -67,6 +77,7 @@ impl fmt::Display for Change {
             }
             Change::Port { silence, mark } => write!(f, "silence {silence}, mark {mark}"),
             Change::Word(number, word) => write!(f, "word {number:02X}h is {word}"),
+            Change::Changed(group, bits) => write!(f, "changed of group {group} is {bits:02X}h"),
             Change::Value(number, value) => write!(f, "value {number:02X}h is {value:08X}h"),
             Change::Fixed(at, bytes) => write!(f, "fixed area from {at}: {}", hex(bytes)),
             Change::Block(at, bytes) => write!(f, "parameter block from {at}: {}", hex(bytes)),
@@ -92,6 +103,7 @@ impl fmt::Display for Event {
             }
             Event::Elapsed(ms) => write!(f, "elapsed {ms}"),
             Event::Word(number, word) => write!(f, "set word {number:02X}h to {word}"),
+            Event::Contact(number, state) => write!(f, "contact {number} is {state}"),
             Event::Pulses(number, count) => write!(f, "pulses {number:02X}h: {count}"),
             Event::Value(number, value) => write!(f, "set value {number:02X}h to {value:08X}h"),
             Event::Store {

@@ -17,7 +17,7 @@ pub struct Fault {
 }
 
 /// The faults, one for each kind of thing that is compared.
-pub static FAULTS: [Fault; 14] = [
+pub static FAULTS: [Fault; 17] = [
     Fault {
         name: "a select held by another is told as none",
         most: 2,
@@ -82,6 +82,36 @@ pub static FAULTS: [Fault; 14] = [
         plant: |e, _, _, u, t, _| {
             if matches!(e, Event::Stretch { bytes, .. } if is_pair(bytes)) && t.outcome == 0 {
                 u.memory.put_kept(header::WRITE, 1);
+            }
+        },
+    },
+    Fault {
+        name: "a contact's first change is marked",
+        most: 1,
+        plant: |e, _, _, u, t, _| {
+            if let (Event::Contact(number, _), 0) = (e, t.outcome) {
+                let group = usize::from(number / 8);
+                let bits = u.memory.chars[header::AT_CHANGED + group];
+                u.memory.chars[header::AT_WORDS + 2 * group + 1] |= bits;
+            }
+        },
+    },
+    Fault {
+        name: "a NOP clears the marks",
+        most: 2,
+        plant: |_, _, _, u, t, reply| {
+            if t.sent > 0 && reply[2] & 0x40 != 0 {
+                (0..header::GROUPS).for_each(|g| u.memory.chars[header::AT_WORDS + 2 * g + 1] = 0);
+            }
+        },
+    },
+    Fault {
+        name: "a scan of other kinds clears the tally",
+        most: 2,
+        plant: |e, _, _, u, t, _| {
+            if matches!(e, Event::Stretch { bytes, .. } if t.outcome == 0 && bytes[2] == 0 && bytes[3] & 4 == 0)
+            {
+                u.memory.chars[header::AT_CHANGED..header::AT_CHANGED + header::GROUPS].fill(0);
             }
         },
     },

@@ -96,6 +96,7 @@ pub fn memory_of(config: &[u8; CONFIG], state: &State) -> Memory {
         header::AT_DROPPED,
         state.dropped.map(u16::to_le_bytes).as_flattened(),
     );
+    made.lay(header::AT_CHANGED, &state.changed);
     made.lay(header::AT_00, &state.fixed.block_00);
     made.lay(header::AT_03, &state.fixed.block_03);
     made.lay(header::AT_0B, &state.fixed.block_0b);

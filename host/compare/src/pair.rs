@@ -1,6 +1,6 @@
 //! Both units side by side: each event goes to both, and everything is compared.
 
-use crate::board::header::{self, CONFIG, KEPT, REPLY};
+use crate::board::header::{self, CONFIG, GROUPS, KEPT, REPLY};
 use crate::board::{room, valid, Equipment, Lent, Turned, Unit};
 use crate::event::{hex, Change, Event, Hold};
 use crate::faults::Fault;
@@ -35,6 +35,8 @@ pub struct Pair {
     pub unit: Box<Unit>,
     /// The proved unit's kept numbers before the latest event.
     pub before: [u16; KEPT],
+    /// The words and the changed contacts of the groups before the latest event.
+    pub groups: [(u16, u8); GROUPS],
     /// Whether the file of the latest record to store was full.
     pub full: bool,
     /// The configuration as characters: no event changes one.
@@ -85,6 +87,7 @@ impl Pair {
             equipment: scene.equipment.clone(),
             places,
             before: unit.memory.all_kept(),
+            groups: [(0, 0); GROUPS],
             full: false,
             chars,
             params: scene.params.clone(),
@@ -112,6 +115,7 @@ impl Pair {
         self.reply[..sent].copy_from_slice(&PATTERN[..sent]);
         self.other[..sent].copy_from_slice(&PATTERN[..sent]);
         self.before = self.unit.memory.all_kept();
+        self.groups = std::array::from_fn(|g| (self.state.words[g], self.state.changed[g]));
         self.full = full(event, &self.state);
         let mut turned = proved(&mut self.unit, self.lent, &mut self.reply, event);
         if let Some(fault) = self.fault {
@@ -142,6 +146,7 @@ impl Pair {
             }
             Event::Elapsed(ms) => independent::elapsed(c, s, params, *ms),
             Event::Word(number, word) => independent::set_word(c, s, params, *number, *word),
+            Event::Contact(number, on) => independent::contact(c, s, params, *number, *on),
             Event::Pulses(number, count) => independent::pulses(c, s, params, *number, *count),
             Event::Value(number, value) => independent::set_value(c, s, params, *number, *value),
             Event::Store {
@@ -252,6 +257,7 @@ impl Pair {
             Change::Bits { bit7, bit3, bit2 } => (s.bit7, s.bit3, s.bit2) = (*bit7, *bit3, *bit2),
             Change::Port { silence, mark } => (s.silence, s.mark) = ((*silence).into(), *mark),
             Change::Word(number, word) => s.words[usize::from(*number)] = *word,
+            Change::Changed(group, bits) => s.changed[usize::from(*group)] = *bits,
             Change::Value(number, value) => s.values[usize::from(*number)] = *value,
             Change::Fixed(at, bytes) => put_in_fixed(s, *at, bytes),
             Change::Block(at, bytes) => self.params[*at..*at + bytes.len()].copy_from_slice(bytes),
@@ -283,6 +289,7 @@ pub fn proved(u: &mut Unit, lent: Lent, buffer: &mut [u8], event: &Event) -> Tur
         }
         Event::Elapsed(ms) => u.elapsed(lent, *ms),
         Event::Word(number, word) => u.set_word(lent, *number, *word),
+        Event::Contact(number, state) => u.contact(lent, *number, *state),
         Event::Pulses(number, count) => u.pulses(lent, *number, *count),
         Event::Value(number, value) => u.set_value(lent, *number, *value),
         Event::Store {

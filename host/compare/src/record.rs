@@ -10,7 +10,7 @@ use independent::Answer;
 use std::io::{Result, Write};
 
 /// What stands first: another number where the writing changes.
-const MARK: &[u8] = b"osturdam recording 3\n";
+const MARK: &[u8] = b"osturdam recording 4\n";
 /// Equal characters that part two changes.
 const APART: usize = 5;
 
@@ -29,6 +29,7 @@ enum Line {
     Pulses = 9,
     Value = 10,
     Store = 11,
+    Contact = 12,
 }
 
 /// A recording that is being written.
@@ -132,6 +133,7 @@ impl<W: Write> Recording<W> {
                 self.out.write_all(&ms.to_le_bytes())
             }
             Event::Word(number, word) => self.point(Line::Word, *number, &word.to_le_bytes()),
+            Event::Contact(number, state) => self.point(Line::Contact, *number, &[*state]),
             Event::Pulses(number, count) => self.point(Line::Pulses, *number, &count.to_le_bytes()),
             Event::Value(number, value) => self.point(Line::Value, *number, &value.to_le_bytes()),
             Event::Store {

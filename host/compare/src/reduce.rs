@@ -1,6 +1,6 @@
 //! Makes a failing run short: events are left out, and what the start holds, as long as the two units still differ.
 
-use crate::board::header::{self, FILES, INPUTS};
+use crate::board::header::{self, FILES, GROUPS, INPUTS};
 use crate::board::BLOCK;
 use crate::event::Event;
 use crate::faults::Fault;
@@ -106,7 +106,7 @@ fn try_start(failure: &mut Run, fault: Option<&'static Fault>, simpler: impl Fn(
 }
 
 /// Ways to make a start simpler; the first makes all of it so.
-const SIMPLER: [fn(&mut Scene); 14] = [
+const SIMPLER: [fn(&mut Scene); 15] = [
     |s| {
         s.state = State::fresh();
         s.params = vec![0; BLOCK];
@@ -118,6 +118,7 @@ const SIMPLER: [fn(&mut Scene); 14] = [
     |s| s.state.words = [0; 256],
     |s| s.state.values = [0; 128],
     |s| s.state.dropped = [0; FILES],
+    |s| s.state.changed = [0; GROUPS],
     |s| s.state.fixed = FixedArea::EMPTY,
     |s| (s.state.select, s.state.timed_out) = (None, None),
     |s| s.state.write = None,

@@ -93,6 +93,7 @@ fn print_areas(s: &State, block: &[u8]) {
     let parts = [
         ("words", s.words.map(u16::to_le_bytes).concat()),
         ("values", s.values.map(u32::to_le_bytes).concat()),
+        ("changed", s.changed.to_vec()),
         ("dropped", s.dropped.map(u16::to_le_bytes).concat()),
         ("block 00", s.fixed.block_00.to_vec()),
         ("block 03", s.fixed.block_03.to_vec()),

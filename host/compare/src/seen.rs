@@ -10,7 +10,7 @@ use independent::{Answer, Clock};
 type Known = fn(&Event, &Pair, &Answer) -> bool;
 
 /// What must have been seen.
-pub const SEEN: [(&str, Known); 69] = [
+pub const SEEN: [(&str, Known); 82] = [
     ("reply of 511 data characters", |_, _, a| a.sent == REPLY),
     ("table scan of 255 words", |_, p, a| {
         a.sent == REPLY - 1 && p.reply()[2] == 0x0A
@@ -207,6 +207,50 @@ pub const SEEN: [(&str, Known); 69] = [
         "accumulator carried over",
         |e, p, a| matches!(e, Event::Pulses(n, count) if a.outcome == 0 && p.unit.memory.word(*n) < *count),
     ),
+    ("first change of a contact", |e, p, a| {
+        given(e, p, a).is_some_and(|(own, _, marked, once)| !own && !marked && !once)
+    }),
+    ("second change of a contact, marked", |e, p, a| {
+        given(e, p, a).is_some_and(|(own, new, marked, once)| !own && !marked && once && new)
+    }),
+    ("change of a contact that is marked", |e, p, a| {
+        given(e, p, a).is_some_and(|(own, _, marked, _)| !own && marked)
+    }),
+    ("contact reported twice the same", |e, p, a| {
+        given(e, p, a).is_some_and(|(own, _, _, once)| own && once)
+    }),
+    (
+        "contact of a group not equipped",
+        |e, p, a| matches!(e, Event::Contact(n, 0..=1) if !p.config.inputs[usize::from(n / 8)] && not_valid(a)),
+    ),
+    (
+        "contact in a state that is none",
+        |e, p, a| matches!(e, Event::Contact(n, 2..) if p.config.inputs[usize::from(n / 8)] && not_valid(a)),
+    ),
+    (
+        "two-bit word refused ready made",
+        |e, p, a| matches!(e, Event::Word(n @ 0..=0x1F, _) if p.config.inputs[usize::from(*n)] && not_valid(a)),
+    ),
+    ("marks cleared by a scan of kinds", |e, p, a| {
+        scans(e, a, 0x00) && cleared(p, |word, _| word > 0xFF)
+    }),
+    ("marks cleared by a scan of a table", |e, p, a| {
+        scans(e, a, 0x0A) && cleared(p, |word, _| word > 0xFF)
+    }),
+    ("tally without a mark cleared by a reply", |e, p, a| {
+        (scans(e, a, 0x00) || scans(e, a, 0x0A))
+            && cleared(p, |word, bits| word < 0x100 && bits > 0)
+    }),
+    ("marked group twice in a reply", |e, p, a| {
+        scans(e, a, 0x0A)
+            && (0..GROUPS).any(|g| p.groups[g].0 > 0xFF && told_twice(p, p.groups[g].0))
+    }),
+    ("marks kept by a refused scan", |e, p, a| {
+        matches!(heard(e).get(2), Some(0x00 | 0x0A)) && (6..=9).contains(&a.outcome) && waiting(p)
+    }),
+    ("marks kept by a scan of other kinds", |e, p, a| {
+        scans(e, a, 0x00) && heard(e)[3] & 0x04 == 0 && waiting(p)
+    }),
     ("bit 7 cleared", |_, p, _| {
         p.before[STATUS_CONFIGURE] == 1 && p.unit.memory.kept(STATUS_CONFIGURE) == 0
     }),
@@ -238,6 +282,53 @@ fn paired(event: &Event, answer: &Answer, outcome: usize) -> bool {
 /// The stretch was no whole frame: a WRITE and an EXECUTE, of which these were right.
 fn apart(event: &Event, answer: &Answer, right: (bool, bool)) -> bool {
     usize::from(answer.outcome) == NOT_WHOLE && halves(heard(event)) == Some(right)
+}
+
+/// Of a contact whose state was taken: whether it was in that state, is marked, was marked, and had changed since its group's last reply.
+fn given(event: &Event, pair: &Pair, answer: &Answer) -> Option<(bool, bool, bool, bool)> {
+    let Event::Contact(number, state) = event else {
+        return None;
+    };
+    let (group, place) = (usize::from(number / 8), number % 8);
+    let (word, bits) = pair.groups[group];
+    let marked = |word: u16| word >> (8 + place) & 1 == 1;
+    let own = word >> place & 1 == u16::from(*state);
+    (answer.outcome == DONE as u8).then(|| {
+        let now = pair.unit.memory.word(group as u8);
+        (own, marked(now), marked(word), bits >> place & 1 == 1)
+    })
+}
+
+fn not_valid(answer: &Answer) -> bool {
+    answer.outcome == NOT_VALID as u8
+}
+
+/// The stretch was a scan by this function, and had a normal reply.
+fn scans(event: &Event, answer: &Answer, function: u8) -> bool {
+    answer.outcome == DONE as u8 && heard(event).get(2) == Some(&function)
+}
+
+/// Whether a group that was such has nothing left to tell.
+fn cleared(pair: &Pair, was: fn(u16, u8) -> bool) -> bool {
+    (0..GROUPS).any(|g| {
+        let (word, bits) = pair.groups[g];
+        was(word, bits) && pair.unit.memory.word(g as u8) < 0x100 && pair.state.changed[g] == 0
+    })
+}
+
+/// Whether an equipped group has a mark now.
+fn waiting(pair: &Pair) -> bool {
+    (0..GROUPS).any(|g| pair.config.inputs[g] && pair.unit.memory.word(g as u8) > 0xFF)
+}
+
+/// Whether a reply has this word at two places.
+fn told_twice(pair: &Pair, word: u16) -> bool {
+    let reply = pair.reply();
+    let data = &reply[7..reply.len() - 2];
+    data.chunks(2)
+        .filter(|two| **two == word.to_le_bytes())
+        .count()
+        > 1
 }
 
 /// The file that a record was stored in.

@@ -39,6 +39,7 @@ pub fn state(rng: &mut Rng, e: &Equipment) -> State {
         made.files[file] = records(rng, e.values[file], many);
     }
     made.dropped = std::array::from_fn(|_| dropped(rng));
+    made.changed = std::array::from_fn(|_| changed(rng));
     made.history = memory(rng, e, &made);
     (made.silence, made.mark) = port(rng);
     made
@@ -144,6 +145,12 @@ pub fn many_records(rng: &mut Rng, e: &Equipment) -> usize {
 fn dropped(rng: &mut Rng) -> u16 {
     let (most, any) = (header::DROPPED as u16, rng.word());
     rng.pick(&[0, 1, 255, most - 1, most, most, any])
+}
+
+/// The contacts of a group that have changed: often none, so that scans with nothing to clear are met too.
+pub fn changed(rng: &mut Rng) -> u8 {
+    let any = rng.byte();
+    rng.pick(&[0, 0, 1, 0xFF, any])
 }
 
 /// Records no longer than their places, even where the configuration asks for more values than it may.

@@ -20,7 +20,8 @@ pub fn stirs(rng: &mut Rng, pair: &Pair, aim: Aim) -> Vec<Change> {
         Aim::Tables if rng.percent(8) => 11,
         Aim::Elapsed if rng.percent(70) => rng.pick(&[0, 1, 2, 5]),
         Aim::SetTime | Aim::ReadTime if rng.percent(20) => 0,
-        _ if rng.percent(6) => rng.below(13),
+        Aim::Contact if rng.percent(10) => 13,
+        _ if rng.percent(6) => rng.below(14),
         _ => return Vec::new(),
     };
     change(rng, pair, of_aim)
@@ -40,6 +41,7 @@ fn change(rng: &mut Rng, pair: &Pair, part: usize) -> Vec<Change> {
         },
         5 => port(rng),
         6 => Change::Word(rng.byte(), rng.word()),
+        13 => Change::Changed(rng.below(header::GROUPS) as u8, shapes::changed(rng)),
         7 => Change::Value(rng.byte() % header::CALCULATIONS as u8, rng.long()),
         8 => Change::Fixed(rng.below(header::FIXED - 7), rng.bytes(8)),
         9 => Change::Block(rng.below(BLOCK - 7), rng.bytes(8)),

@@ -42,7 +42,7 @@ mod unit;
 
 pub use config::Config;
 pub use kept::{Clock, HistoryReply, Hold, Kept, Mark, Memory, Pending, Port, Select, View, Write};
-pub use numbers::{ControlOutput, File, Input, Master, Ordinal, SpecialCalculation};
+pub use numbers::{Contact, ControlOutput, File, Input, Master, Ordinal, SpecialCalculation};
 pub use outcome::{Action, Outcome, Stored, Turn};
 pub use unit::Unit;
 

@@ -18,6 +18,8 @@ numbers! {
     /// Unit::fresh(Config::new(1)).pulses(ControlOutput(0x40), 1);
     /// ```
     Input;
+    /// A contact: 0 to 255, contact 8g + i at place i of group g, which is the input of that number.
+    Contact;
     /// An output that masters select and operate.
     ControlOutput;
     /// A special calculation: 00 to 7Fh.

@@ -37,6 +37,9 @@ extern "C" {
     fn osturdam_set_word(
         unit: *mut Chars, block: *const u8, length: u64, records: *const u8, room: u64,
         input: u8, word: u16) -> u8;
+    fn osturdam_contact(
+        unit: *mut Chars, block: *const u8, length: u64, records: *const u8, room: u64,
+        contact: u8, state: u8) -> u8;
     fn osturdam_pulses(
         unit: *mut Chars, block: *const u8, length: u64, records: *const u8, room: u64,
         input: u8, count: u16) -> u8;
@@ -111,6 +114,13 @@ pub(crate) fn set_word(m: &mut Memory, input: u8, word: u16) -> u8 {
     let (lent, room) = (m.lent(), m.room());
     // SAFETY: above; `lent` is at most the length of `block`, `room` that of `records`.
     unsafe { osturdam_set_word(&mut m.unit, m.block.as_ptr(), lent, m.records.as_ptr(), room, input, word) }
+}
+
+#[rustfmt::skip]
+pub(crate) fn contact(m: &mut Memory, contact: u8, state: u8) -> u8 {
+    let (lent, room) = (m.lent(), m.room());
+    // SAFETY: above; `lent` is at most the length of `block`, `room` that of `records`.
+    unsafe { osturdam_contact(&mut m.unit, m.block.as_ptr(), lent, m.records.as_ptr(), room, contact, state) }
 }
 
 #[rustfmt::skip]

@@ -2,8 +2,8 @@
 
 use crate::memory::{word_at, Memory};
 use crate::{
-    header, raw, Action, Config, File, Input, Kept, Ordinal, Outcome, SpecialCalculation, Stored,
-    Turn, RECORDS,
+    header, raw, Action, Config, Contact, File, Input, Kept, Ordinal, Outcome, SpecialCalculation,
+    Stored, Turn, RECORDS,
 };
 
 /// A remote unit: all its memory, in which its configuration lies too.
@@ -138,9 +138,37 @@ impl Unit {
         Outcome::told(raw::elapsed(&mut self.memory, ms))
     }
 
-    /// A status or analog word is now this.
+    /// A word of simple status or an analog is now this; two-bit status comes from its contacts alone.
     pub fn set_word(&mut self, input: Input, word: u16) -> Outcome {
         Outcome::told(raw::set_word(&mut self.memory, input.0, word))
+    }
+
+    /// A contact is now closed, or open. Its group's word has the states in its low eight bits, and in its high eight a mark for each
+    /// contact that has changed more than once since the last reply that carried the word.
+    ///
+    /// ```
+    /// use osturdam::{Config, Contact, Input, Outcome, Unit};
+    /// let mut unit = Unit::fresh(Config::new(1).input(Input(2)));
+    /// for closed in [true, false, true] {
+    ///     assert_eq!(unit.contact(Contact(8 * 2 + 5), closed), Outcome::Done);
+    /// }
+    /// assert_eq!(unit.word(Input(2)), 0x2020);
+    /// assert_eq!(unit.contact(Contact(8 * 3), true), Outcome::NotValid);
+    /// ```
+    pub fn contact(&mut self, contact: Contact, closed: bool) -> Outcome {
+        Outcome::told(raw::contact(&mut self.memory, contact.0, closed.into()))
+    }
+
+    /// Which of an input's eight contacts have changed since the last reply that carried its word, a bit each; 0 for an input that is no
+    /// two-bit status.
+    pub fn changed(&self, group: Input) -> u8 {
+        let place = usize::from(group.0);
+        let known = place < header::GROUPS as usize;
+        if known {
+            self.memory.unit[header::AT_CHANGED as usize + place]
+        } else {
+            0
+        }
     }
 
     /// So many pulses were counted on an accumulator.

@@ -33,10 +33,11 @@ class Commands(PollTest):
         self.assertEqual({k: v for k, v in made.items() if k != 'port'}, answer)
 
     def test_scans(self):
-        self.told('word 80h 65535', 'word 30h 32769', 'word 00h 42330', 'pulse 40h 12')
+        self.told('word 80h 65535', 'word 30h 32769', 'pulse 40h 12')
+        self.told(*(f'contact {n} 1' for n in (0, 1, 3, 4, 6, 7)), 'contact 0 0', 'contact 7 0')
         self.shows(['scan', 'analog'], 'analog 1: -1 (FFFFh)', *(f'analog {n}: 0 (0000h)' for n in range(2, 9)))
         self.shows(['scan', 'status'], 'status 1: 1000000000000001 (8001h)', 'status 2: 0000000000000000 (0000h)')
-        self.shows(['scan', 'two-bit'], 'two-bit 1: states 10100101, changed 01011010 (A55Ah)', 'two-bit 2: states 00000000, changed 00000000 (0000h)')
+        self.shows(['scan', 'two-bit'], 'two-bit 1: states 01011010, changed 10000001 (815Ah)', 'two-bit 2: states 00000000, changed 00000000 (0000h)')
         self.shows(['scan', 'pulse'], 'pulse 1: 12 (000Ch)', *(f'pulse {n}: 0 (0000h)' for n in (2, 3, 4)))
         self.assertIn('word 5: 12, signed 12 (000Ch)\n', self.ask('scan', 'all'))
         self.assertIn('word 3: 65535, signed -1 (FFFFh)\n', self.ask('scan', 'analog', 'status'))
