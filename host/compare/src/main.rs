@@ -11,6 +11,7 @@ mod event;
 mod faults;
 mod frames;
 mod image;
+mod known;
 mod pair;
 mod places;
 mod poll;
