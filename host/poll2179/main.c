@@ -1,5 +1,4 @@
 /* poll2179: a master of the Cooper 2179 serial protocol, by hand. */
-#include <fcntl.h>
 #include <poll.h>
 #include <signal.h>
 #include <stdio.h>
@@ -7,6 +6,7 @@
 
 #include "clock.h"
 #include "options.h"
+#include "say.h"
 
 enum { EXIT_FILES = 1, EXIT_USAGE, EXIT_NOP, EXIT_RST, EXIT_SILENT, EXIT_LINE };
 
@@ -94,16 +94,6 @@ static int run(const struct options *o, const struct command *c)
     if (o->follow)
         return follow(x, o, c);
     return status_of(x, c->kind == WRITE ? write_block(x, o, c) : ask(x, o, c));
-}
-
-/* No file or line that is opened later may become standard output or error: what is put in the place of one that is closed cannot be
- * written. */
-static bool standard_files(void)
-{
-    int file = open("/dev/null", O_RDONLY);
-    while (file >= 0 && file <= STDERR_FILENO)
-        file = open("/dev/null", O_RDONLY);
-    return file >= 0 && close(file) == 0;
 }
 
 int main(int many, char **words)

@@ -4,6 +4,7 @@
 #include <string.h>
 
 #include "clock.h"
+#include "serial.h"
 #include "text.h"
 #include "wire.h"
 
@@ -88,7 +89,7 @@ static bool settled(struct options *o)
         return wrong("--line", "is missing: a device, or ADDRESS:PORT");
     if (!o->unit_given)
         return wrong("--unit", "is missing: 0 to 2046");
-    if (!wire_has_baud(o->baud))
+    if (!serial_has_baud(o->baud))
         return wrong("--baud", "is 300, 600, 1200, 2400, 4800, 9600, 19200, 38400, 57600 or 115200");
     if (o->parity && strcmp(o->parity, "none") != 0 && strcmp(o->parity, "even") != 0 && strcmp(o->parity, "odd") != 0)
         return wrong("--parity", "is none, even or odd");

@@ -18,49 +18,15 @@
 #include "clock.h"
 #include "osturdam.h"
 #include "say.h"
+#include "serial.h"
 #include "text.h"
 
 enum { CONNECT_MS = 5000, SEND_MS = 5000, FLOOD_MS = 2000, ADDRESS_MOST = 256 };
-
-static const struct {
-    uint32_t baud;
-    speed_t speed;
-} speeds[] = {{300, B300},   {600, B600},     {1200, B1200},   {2400, B2400},   {4800, B4800},
-              {9600, B9600}, {19200, B19200}, {38400, B38400}, {57600, B57600}, {115200, B115200}};
-
-enum { SPEEDS = sizeof speeds / sizeof *speeds };
-
-static size_t speed_of(uint32_t baud)
-{
-    size_t i = 0;
-    while (i < SPEEDS && speeds[i].baud != baud)
-        i++;
-    return i;
-}
-
-bool wire_has_baud(uint32_t baud)
-{
-    return speed_of(baud) < SPEEDS;
-}
 
 static bool failed(const char *place, const char *what)
 {
     complain(&(struct place){place, 0}, "%s", what);
     return false;
-}
-
-/* Eight bits, one stop bit, every character as it is. */
-static bool make_raw(int file, speed_t speed, char parity)
-{
-    struct termios t;
-    if (tcgetattr(file, &t) != 0)
-        return false;
-    t.c_oflag = t.c_lflag = 0;
-    t.c_iflag = parity == 'n' ? 0 : INPCK | IGNPAR;
-    t.c_cflag = CS8 | CREAD | CLOCAL | (parity == 'n' ? 0 : PARENB) | (parity == 'o' ? PARODD : 0);
-    t.c_cc[VMIN] = 1;
-    t.c_cc[VTIME] = 0;
-    return cfsetispeed(&t, speed) == 0 && cfsetospeed(&t, speed) == 0 && tcsetattr(file, TCSANOW, &t) == 0;
 }
 
 static bool open_device(struct wire *wire, const char *path, uint32_t baud, char parity)
@@ -70,7 +36,7 @@ static bool open_device(struct wire *wire, const char *path, uint32_t baud, char
         return failed(path, strerror(errno));
     if (flock(wire->file, LOCK_EX | LOCK_NB) != 0)
         return failed(path, "another program has it");
-    if (!make_raw(wire->file, speeds[speed_of(baud)].speed, parity))
+    if (!serial_make_raw(wire->file, baud, parity))
         return failed(path, "is no serial device");
     wire->device = true;
     return tcflush(wire->file, TCIFLUSH) == 0 || failed(path, strerror(errno));

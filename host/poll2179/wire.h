@@ -22,7 +22,6 @@ struct patience {
 bool wire_open(struct wire *wire, const char *place, uint32_t baud, char parity);
 
 /* Whether a device can have this speed. */
-bool wire_has_baud(uint32_t baud);
 
 /* Reads away what nobody waits for any more, for so many milliseconds and until nothing is there. These three: false where the line has
  * ended or is stuck, told on standard error. */

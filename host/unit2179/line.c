@@ -21,31 +21,11 @@
 
 #include "clock.h"
 #include "say.h"
+#include "serial.h"
 
 enum { SEND_MS = 5000 }; /* a reply of 520 characters at 1200 baud takes 4,334 ms */
 
-static const struct {
-    uint32_t baud;
-    speed_t speed;
-} speeds[] = {{300, B300},   {600, B600},     {1200, B1200},   {2400, B2400},   {4800, B4800},
-              {9600, B9600}, {19200, B19200}, {38400, B38400}, {57600, B57600}, {115200, B115200}};
-
-enum { SPEEDS = sizeof speeds / sizeof *speeds };
-
 enum { PTY_FIRST = 136, PTY_LAST = 143 }; /* the system's numbers of pseudo-terminals among its devices */
-
-static size_t speed_of(uint32_t baud)
-{
-    size_t i = 0;
-    while (i < SPEEDS && speeds[i].baud != baud)
-        i++;
-    return i;
-}
-
-bool line_has_baud(uint32_t baud)
-{
-    return speed_of(baud) < SPEEDS;
-}
 
 struct pace line_pace(const struct serial *serial)
 {
@@ -65,20 +45,6 @@ static bool failed(const char *name, const char *what)
 {
     complain(&(struct place){name, 0}, "%s: %s", what, strerror(errno));
     return false;
-}
-
-/* Eight bits, one stop bit, every character as it is; one with wrong parity is left out, and its stretch is damaged. */
-static bool make_raw(int file, speed_t speed, char parity)
-{
-    struct termios t;
-    if (tcgetattr(file, &t) != 0)
-        return false;
-    t.c_oflag = t.c_lflag = 0;
-    t.c_iflag = parity == 'n' ? 0 : INPCK | IGNPAR;
-    t.c_cflag = CS8 | CREAD | CLOCAL | (parity == 'n' ? 0 : PARENB) | (parity == 'o' ? PARODD : 0);
-    t.c_cc[VMIN] = 1;
-    t.c_cc[VTIME] = 0;
-    return cfsetispeed(&t, speed) == 0 && cfsetospeed(&t, speed) == 0 && tcsetattr(file, TCSANOW, &t) == 0;
 }
 
 /* Two programs on one device would each hear a part: programs that lock it are kept out by that, others by the device itself. */
@@ -108,7 +74,7 @@ bool line_open_serial(struct line *line, const char *device, const struct serial
         return failed(device, errno == EBUSY ? "another program has it" : "cannot be opened");
     if (!take_alone(file))
         return failed(device, "another program has it");
-    if (!make_raw(file, speeds[speed_of(serial->baud)].speed, serial->parity))
+    if (!serial_make_raw(file, serial->baud, serial->parity))
         return failed(device, "is no serial device");
     if (serial->rs485 && !key_sender(file))
         return failed(device, "does not key an RS-485 sender");
@@ -127,7 +93,7 @@ bool line_open_pty(struct line *line)
         return failed(line->name, "cannot be made");
     line_empty(line, ptsname(file));
     line->held = open(line->name, O_RDWR | O_NOCTTY | O_CLOEXEC);
-    if (line->held < 0 || !make_raw(line->held, B9600, 'n') || fcntl(file, F_SETFL, O_NONBLOCK) != 0)
+    if (line->held < 0 || !serial_make_raw(line->held, 9600, 'n') || fcntl(file, F_SETFL, O_NONBLOCK) != 0)
         return failed(line->name, "cannot be opened");
     line->channels[0].file = file;
     return true;

@@ -46,7 +46,6 @@ bool line_open_pty(struct line *line);
 bool line_open_tcp(struct line *line, const char *address, const char *port, const struct peers *peers);
 
 /* Whether the line has this speed. */
-bool line_has_baud(uint32_t baud);
 
 /* A character has a start bit, eight bits, a parity bit where there is one, and a stop bit. */
 struct pace line_pace(const struct serial *serial);

@@ -15,6 +15,7 @@
 #include "line.h"
 #include "log.h"
 #include "options.h"
+#include "say.h"
 #include "serve.h"
 
 enum { EXIT_USAGE = 2, EXIT_CONFIG, EXIT_STATE, EXIT_LINE, EXIT_OUTPUT };
@@ -138,16 +139,6 @@ static int run(const struct options *o)
     printf("unit %u on %s\n", osturdam_number_of(&all.unit.config), line.name);
     fflush(stdout);
     return ended(serve(&server));
-}
-
-/* No file or line that is opened later may become standard output or error. What is put in the place of one that is closed cannot be
- * written: so an action that is told there is not lost silently. */
-static bool standard_files(void)
-{
-    int file = open("/dev/null", O_RDONLY);
-    while (file >= 0 && file <= STDERR_FILENO)
-        file = open("/dev/null", O_RDONLY);
-    return file >= 0 && close(file) == 0;
 }
 
 int main(int many, char **words)

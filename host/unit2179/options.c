@@ -8,6 +8,7 @@
 #include "events.h"
 #include "image.h"
 #include "line.h"
+#include "serial.h"
 #include "text.h"
 
 #define BAUDS "is 300, 600, 1200, 2400, 4800, 9600, 19200, 38400, 57600 or 115200"
@@ -100,7 +101,7 @@ static bool settled(struct options *o)
         return wrong("--parity", "is none, even or odd");
     if (o->parity)
         o->line.parity = o->parity[0];
-    if (!line_has_baud(o->line.baud))
+    if (!serial_has_baud(o->line.baud))
         return wrong("--baud", BAUDS);
     if (o->gap == 0)
         o->gap = gap_at(&o->line);

@@ -1,6 +1,7 @@
 #include "say.h"
 
 #include <errno.h>
+#include <fcntl.h>
 #include <poll.h>
 #include <stdarg.h>
 #include <stdio.h>
@@ -8,6 +9,14 @@
 #include <unistd.h>
 
 enum { SAID = 1024 };
+
+bool standard_files(void)
+{
+    int file = open("/dev/null", O_RDONLY);
+    while (file >= 0 && file <= STDERR_FILENO)
+        file = open("/dev/null", O_RDONLY);
+    return file >= 0 && close(file) == 0;
+}
 
 size_t put_chars(int file, const char *chars, size_t many)
 {
