@@ -6,7 +6,7 @@ use Prim.Native.Nat.{ℕ, _+_, _-_, _*_, _/_, _%_, _^_, _≤_, _<_}
 use native.Mathlib.Nat.{div-eq-of-lt, lt-of-lt-of-le}
 use native.Mathlib.Omega.{arith}
 use lib.ListN.{length}
-use lib.Bits.{bitXor, xor-comm}
+use lib.Bits.{bitXor, xor-comm, xor-zero-r}
 use lib.Pow.{pow-mono, shl-exact, shr-lt}
 use Rattle.chars.specs.Put.{part}
 use Rattle.chars.proofs.PutLaws.{length-part, part-whole}
@@ -15,7 +15,7 @@ use Rattle.checkword.specs.Alike.{Alike, parity}
 use Rattle.checkword.specs.Line.{line}
 use Rattle.checkword.proofs.Xor.{xor-assoc}
 use Rattle.checkword.proofs.Binary.{fallen-out}
-use Rattle.checkword.proofs.Steps.{bitSteps-xor, bitSteps-split}
+use Rattle.checkword.proofs.Steps.{bitSteps-xor, bitSteps-split, bitSteps-0}
 use Rattle.checkword.proofs.Whole.{whole, more}
 use Rattle.checkword.proofs.Alike.{alike-is, alike-then, alike-steps, alike-xor, back}
 use Rattle.checkword.proofs.Parity.{parity-xor, parity-steps, alike-same}
@@ -82,6 +82,12 @@ in-high v s n x y e h is started =
     ∙ sym (bitSteps-xor (8 * n) v (line s))
     ∙ ap (λ k. bitSteps (8 * k) (bitXor v (line s))) e
     ∙ sym (whole v s)
+
+-- the check of a list that stands in the high places, from no start
+pub in-number : (s : List ℕ) → length s ≤ 8 → bitSteps 64 (line s * 2 ^ (64 - 8 * length s)) ≡ checkFrom 0 s
+in-number s h =
+    in-high 0 s (length s) (line s * 2 ^ (64 - 8 * length s)) (line s * 2 ^ (64 - 8 * length s)) refl h refl
+    (sym (xor-zero-r (bitSteps 64 (line s * 2 ^ (64 - 8 * length s)))) ∙ ap (bitXor (bitSteps 64 (line s * 2 ^ (64 - 8 * length s)))) (sym (bitSteps-0 (8 * length s))))
 
 -- and r with the ones of y
 pub in-two : (y r : ℕ) → (Alike r (bitSteps 64 y)) × (parity r ≡ parity y) → r ≡ bitSteps 64 y

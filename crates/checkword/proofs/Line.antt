@@ -17,7 +17,7 @@ use Rattle.chars.proofs.WordLaws.{characters-take, characters-drop}
 use Rattle.checkword.specs.Line.{bitAt, line}
 use Rattle.checkword.proofs.Binary.{low-bit, fallen-out}
 
-line-cons : (b : ℕ) (s : List ℕ) → b < 256 → line (b ∷ s) ≡ line s * 2 ^ 8 + b
+pub line-cons : (b : ℕ) (s : List ℕ) → b < 256 → line (b ∷ s) ≡ line s * 2 ^ 8 + b
 unfolding line
 line-cons b s h = xor-comm b (line s * 2 ^ 8) ∙ xor-shifted (line s) 8 b h
 

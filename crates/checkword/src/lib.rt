@@ -94,6 +94,14 @@ fn folded(start: u16, s: &[u8]) -> u16
     worked(turn(v) ^ w, a ^ w)
 }
 
+// The check of up to eight characters that are one number, in its high places: for who has them at hand. Those that were written just before
+// and one by one would be waited for where they are read as one number.
+pub fn check_number(v: u64) -> u16
+    ensures { λ r. ⌜ r ≡ bitSteps 64 v ⌝ }
+{
+    worked(v, v)
+}
+
 // Fewer characters are one number as they stand.
 const LONG: usize = 9;
 
@@ -109,9 +117,7 @@ pub extern "C" fn check_word(start: u16, s: &[u8]) -> u16
         if n == 0 {
             return start;
         }
-        let v = started(start, few(s), n);
-        return worked(v, v);
+        return check_number(started(start, few(s), n));
     }
-    let v = started(start, several(s), n);
-    worked(v, v)
+    check_number(started(start, several(s), n))
 }

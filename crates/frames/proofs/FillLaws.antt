@@ -1,18 +1,21 @@
 -- Laws of a reply laid round its data in a buffer: head, then check characters.
 -- Assumes nothing.
-use mathlib.Core.Path.{_≡_, refl, sym, ap, _∙_}
-use Prim.Native.Nat.{ℕ, zero, suc, _+_, _<_, _≤_}
+use mathlib.Core.Path.{_≡_, refl, sym, ap, ap₂, _∙_}
+use Prim.Native.Nat.{ℕ, zero, suc, _+_, _-_, _*_, _^_, _<_, _≤_}
 use native.Mathlib.Omega.{arith}
 use mathlib.Core.List.{List, [], _∷_, _++_}
 use mathlib.Core.Bool.{Bool, true, false, cond}
-use lib.ListN.{length, take, length-append}
+use lib.ListN.{length, take, getD, length-append}
+use lib.Seq.{drop-cons}
 use lib.Dec.{leb}
 use borrow.Author.Tests.{le-leb, lt-leb}
 use Rattle.chars.specs.Put.{put, part}
 use Rattle.chars.specs.Word.{word}
-use Rattle.chars.proofs.PutLaws.{put-own, length-put, put-none, put-under, put-then, take-put-front, length-part}
+use Rattle.chars.proofs.PutLaws.{put-own, length-put, put-none, put-under, put-then, take-put-front, length-part, part-none, part-put-after}
 use Rattle.chars.proofs.WordLaws.{length-word}
-use Rattle.checkword.specs.Check.{checkOf}
+use Rattle.checkword.specs.Check.{bitSteps, checkOf}
+use Rattle.checkword.specs.Line.{line}
+use Rattle.checkword.proofs.Eights.{in-number}
 use Rattle.model.specs.Frame.{withCheck, headChars, replyChars}
 use Rattle.model.specs.declared.Reply.{Reply}
 use Rattle.frames.specs.Framed.{framedIn}
@@ -44,6 +47,12 @@ unfolding withCheck
 check-put entry front end l h us bs a b =
     let read : take end us ≡ front = rw (a, ← l) (take-put-front entry front (omega arith)) in
     put-then entry us bs 0 end front (word (checkOf front)) a (omega arith) (rw read at b)
+
+-- one character at most behind the head
+next : (us : List ℕ) (n : ℕ) → n < 2 → 7 < length us → take n (getD us 7 0 ∷ []) ≡ part us 7 n
+next us zero k h = sym (part-none us 7)
+next us (suc zero) k h = unfold part in sym (ap (take 1) (drop-cons us 7 0 h))
+next us (suc (suc n)) k h = absurd (omega arith)
 
 module _ (entry : List ℕ) (r : Reply) where
   -- ---- where the buffer cannot hold the reply
@@ -85,3 +94,22 @@ module _ (entry : List ℕ) (r : Reply) where
       -- the check of the front, written behind it, makes the reply
       pub framed-put : (bs : List ℕ) → bs ≡ put us (7 + r .count) (word (checkOf (take (7 + r .count) us))) → bs ≡ put entry 0 (framedIn entry r)
       framed-put bs b = rw framed-some (check-put entry front (7 + r .count) length-front (omega arith) us bs head-front b)
+
+      -- of one character of data at most the check may be that of a number
+      pub framed-number : (v check : ℕ) (bs : List ℕ) → r .count < 2
+          → v ≡ line (headChars r ++ take (r .count) (getD us 7 0 ∷ [])) * 2 ^ (8 * (1 - r .count))
+          → check ≡ bitSteps 64 v
+          → bs ≡ put us (7 + r .count) (word check)
+          → bs ≡ put entry 0 (framedIn entry r)
+      unfolding front headChars
+      framed-number v check bs k e d b =
+          let long : 7 < length us = rw (a, length-put) (omega arith) in
+          let behind : part us 7 (r .count) ≡ part entry 7 (r .count) =
+          ap (λ l. part l 7 (r .count)) a ∙ part-put-after entry 0 (headChars r) 7 (r .count) (omega (arith, length-head r)) in
+          let whole : headChars r ++ take (r .count) (getD us 7 0 ∷ []) ≡ front = ap (λ l. headChars r ++ l) (next us (r .count) k long ∙ behind) in
+          let up : 8 * (1 - r .count) ≡ 64 - 8 * length front = omega (arith, length-front) in
+          let few : length front ≤ 8 = omega (arith, length-front) in
+          let read : take (7 + r .count) us ≡ front = rw (head-front, ← length-front) (take-put-front entry front (omega (arith, length-front))) in
+          framed-put bs
+          (b ∙ ap (λ x. put us (7 + r .count) (word x))
+          (d ∙ ap (bitSteps 64) (e ∙ ap₂ (λ l n. line l * 2 ^ n) whole up) ∙ in-number front few ∙ ap (λ l. checkOf l) (sym read)))

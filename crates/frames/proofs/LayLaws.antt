@@ -1,16 +1,18 @@
 -- Laws of a request laid into a buffer: head, data, then check characters.
 -- Assumes nothing.
-use mathlib.Core.Path.{_≡_, refl, sym, _∙_}
-use Prim.Native.Nat.{ℕ, _+_, _<_, _≤_}
+use mathlib.Core.Path.{_≡_, refl, sym, ap, ap₂, _∙_}
+use Prim.Native.Nat.{ℕ, _+_, _-_, _*_, _^_, _<_, _≤_}
 use native.Mathlib.Omega.{arith}
 use mathlib.Core.List.{List, [], _∷_, _++_}
 use lib.ListN.{length, take, length-append}
 use borrow.Author.Tests.{le-leb, lt-leb}
 use Rattle.chars.specs.Put.{put, part}
 use Rattle.chars.specs.Word.{word}
-use Rattle.chars.proofs.PutLaws.{put-none, put-then, part-whole}
+use Rattle.chars.proofs.PutLaws.{put-none, put-then, part-whole, take-put-front, copy-none}
 use Rattle.chars.proofs.WordLaws.{length-word}
-use Rattle.checkword.specs.Check.{checkOf}
+use Rattle.checkword.specs.Check.{bitSteps, checkOf}
+use Rattle.checkword.specs.Line.{line}
+use Rattle.checkword.proofs.Eights.{in-number}
 use Rattle.model.specs.Frame.{Request, asked, withCheck, frameChars}
 use Rattle.model.specs.declared.Frame.{Frame}
 use Rattle.frames.specs.Framed.{askedHead, laidIn}
@@ -72,3 +74,17 @@ module _ (entry : List ℕ) (f : Frame) (ys : List ℕ) (k : length ys ≤ 128) 
       rw laid-some
       (check-put entry front (6 + length ys) length-front (omega arith) vs bs
       (put-then entry us vs 0 6 (askedHead f (length ys)) ys a (omega (arith, length-asked f (length ys))) (b ∙ rw part-whole)) d)
+
+-- without data the check may be that of a number
+pub laid-number : (entry : List ℕ) (f : Frame) (ys : List ℕ) → length ys ≡ 0 → 8 + length ys ≤ length entry
+    → (v check : ℕ) (us bs : List ℕ) → us ≡ put entry 0 (askedHead f (length ys)) → v ≡ line (askedHead f 0) * 2 ^ 16 → check ≡ bitSteps 64 v
+    → bs ≡ put us 6 (word check)
+    → bs ≡ put entry 0 (laidIn (length entry) (asked f ys))
+laid-number entry f (y ∷ ys) z h v check us bs a e d b = absurd (omega arith)
+laid-number entry f [] z h v check us bs a e d b =
+    let long : length (askedHead f 0) ≤ length entry = omega (arith, length-asked f 0) in
+    let few : length (askedHead f 0) ≤ 8 = omega (arith, length-asked f 0) in
+    let up : 16 ≡ 64 - 8 * length (askedHead f 0) = omega (arith, length-asked f 0) in
+    let read : take 6 us ≡ askedHead f 0 = ap₂ take (sym (length-asked f 0)) a ∙ take-put-front entry (askedHead f 0) long in
+    laid-put entry f [] (omega arith) h us us bs a (sym (copy-none us 6 [] 0))
+    (b ∙ ap (λ x. put us 6 (word x)) (d ∙ ap (bitSteps 64) (e ∙ ap (λ n. line (askedHead f 0) * 2 ^ n) up) ∙ in-number (askedHead f 0) few ∙ ap (λ l. checkOf l) (sym read)))

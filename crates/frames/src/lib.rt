@@ -3,6 +3,7 @@ use chars::copy;
 use chars::put_char;
 use chars::put_word;
 use chars::word_at;
+use checkword::check_number;
 use checkword::check_word;
 use model::Frame;
 use model::Heard;
@@ -10,11 +11,13 @@ use model::Master;
 use model::Reply;
 ghost use mathlib.Core.Path.{_≡_};
 ghost use mathlib.Core.Bool.{true};
-ghost use Prim.Native.Nat.{_+_, _-_, _≤_};
+ghost use mathlib.Core.List.{[], _∷_, _++_};
+ghost use Prim.Native.Nat.{_+_, _-_, _*_, _^_, _<_, _≤_};
 ghost use lib.ListN.{length, take};
 ghost use Rattle.chars.specs.Put.{put, part};
 ghost use Rattle.chars.specs.Word.{word};
 ghost use Rattle.checkword.specs.Check.{checkOf};
+ghost use Rattle.checkword.specs.Line.{line};
 ghost use Rattle.model.specs.Frame.{unitOf, masterOf, addressOf, asked, whole, checked, frameIn, commands, paired, heardOf, headChars};
 ghost use Rattle.frames.specs.Framed.{askedHead, framedIn, laidIn};
 
@@ -162,6 +165,21 @@ fn put_check(buffer: &mut [u8], end: usize)
     put_word(buffer, end, check);
 }
 
+// A reply of one character of data at most as one number, in its high places: the check need not wait for what was just written.
+fn reply_number(head: Reply, first: u8) -> u64
+    requires { ⌜ head .count < 2 ⌝ }
+    ensures { λ r. ⌜ r ≡ line (headChars head ++ take (head .count) (first ∷ [])) * 2 ^ (8 * (1 - head .count)) ⌝ }
+{
+    let front = (head.address as u64)
+        + (65536 * (head.function as u64)
+            + (16777216 * (head.status as u64)
+                + (4294967296 * (head.port as u64) + 1099511627776 * (head.count as u64))));
+    if head.count == 0 {
+        return 256 * front;
+    }
+    front + 72057594037927936 * (first as u64)
+}
+
 // Head and check characters go round data that stand in the buffer already. How many characters the reply has;
 // 0, and nothing written, where the buffer cannot hold them.
 pub fn fill(buffer: &mut [u8], head: Reply) -> usize
@@ -172,6 +190,11 @@ pub fn fill(buffer: &mut [u8], head: Reply) -> usize
         return 0;
     }
     put_head(buffer, head);
+    if head.count < 2 {
+        let number = reply_number(head, buffer[Reply::HEAD]);
+        put_word(buffer, end, check_number(number));
+        return end + 2;
+    }
     put_check(buffer, end);
     end + 2
 }
@@ -185,6 +208,14 @@ fn put_asked(buffer: &mut [u8], frame: Frame, count: u16)
     put_char(buffer, 2, frame.function);
     put_char(buffer, 3, frame.command);
     put_word(buffer, 4, count);
+}
+
+// A request without data as one number, in its high places.
+fn asked_number(frame: Frame) -> u64
+    ensures { λ r. ⌜ r ≡ line (askedHead frame 0) * 2 ^ 16 ⌝ }
+{
+    65536 * (frame.address as u64)
+        + (4294967296 * (frame.function as u64) + 1099511627776 * (frame.command as u64))
 }
 
 // A request as a master sends it goes into the front of the buffer: as many data as there are, whatever the head counts. How many characters
@@ -202,6 +233,10 @@ pub fn lay(buffer: &mut [u8], frame: Frame, body: &[u8]) -> usize
         return 0;
     }
     put_asked(buffer, frame, n as u16);
+    if n == 0 {
+        put_word(buffer, DATA, check_number(asked_number(frame)));
+        return DATA + 2;
+    }
     copy(body, 0, n, buffer, DATA);
     put_check(buffer, end);
     end + 2

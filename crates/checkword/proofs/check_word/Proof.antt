@@ -3,7 +3,7 @@
 use mathlib.Core.Path.{refl, sym, _∙_}
 use native.Mathlib.Omega.{arith}
 use borrow.Author.Needs.{needs}
-use Rattle.checkword.proofs.Eights.{in-none, in-high, in-two}
+use Rattle.checkword.proofs.Eights.{in-none, in-high}
 use Rattle.checkword.proofs.check_word.Statement.{statement}
 use Rattle.checkword.proofs.check_word.Tie as tie
 
@@ -22,13 +22,13 @@ few-requires c κs = search needs
 started-requires : tie.Need-started-requires
 started-requires c κs = search needs
 
-worked-requires : tie.Need-worked-requires
-worked-requires c κs = search needs
+check-number-requires : tie.Need-check-number-requires
+check-number-requires c κs = search needs
 
 returns-3 : tie.Need-returns-3
 returns-3 c =
     let a = c .before .before .before .before .before .before .before .args in
-    in-two _ _ (c .worked .ensures) ∙ in-high (a .start) (a .s .now) _ _ _ refl (omega arith) (c .before .before .few .ensures) (c .before .started .ensures)
+    c .check-number .ensures ∙ in-high (a .start) (a .s .now) _ _ _ refl (omega arith) (c .before .before .few .ensures) (c .before .started .ensures)
 
 several-requires : tie.Need-several-requires
 several-requires c κs = search needs
@@ -36,13 +36,13 @@ several-requires c κs = search needs
 started-requires-2 : tie.Need-started-requires-2
 started-requires-2 c κs = search needs
 
-worked-requires-2 : tie.Need-worked-requires-2
-worked-requires-2 c κs = search needs
+check-number-requires-2 : tie.Need-check-number-requires-2
+check-number-requires-2 c κs = search needs
 
 returns-4 : tie.Need-returns-4
 returns-4 c =
     let a = c .before .before .before .before .before .before .args in
-    in-two _ _ (c .worked2 .ensures) ∙ in-high (a .start) (a .s .now) _ _ _ refl (omega arith) (c .before .before .several .ensures) (c .before .started2 .ensures)
+    c .check-number2 .ensures ∙ in-high (a .start) (a .s .now) _ _ _ refl (omega arith) (c .before .before .several .ensures) (c .before .started2 .ensures)
 
 pub check-word-spec : {M : Type 1} → statement M
 check-word-spec =
@@ -53,9 +53,9 @@ check-word-spec =
     returns-2
     few-requires
     started-requires
-    worked-requires
+    check-number-requires
     returns-3
     several-requires
     started-requires-2
-    worked-requires-2
+    check-number-requires-2
     returns-4)
