@@ -115,6 +115,14 @@ static void release(void)
     ask(0x04, 0x41, "", 0, 1, OSTURDAM_DONE);
 }
 
+// The acknowledging request names the same file, the last: what was sent leaves, and as much again is sent.
+static void follow(void)
+{
+    store(31, 32);
+    ask(0x04, 0x7F, "", 0, 0, OSTURDAM_DONE);
+    ask(0x04, 0x7F, "", 0, 1, OSTURDAM_DONE);
+}
+
 static void refused(void)
 {
     ask(0x10, 0x10, "\x63", 1, 1, OSTURDAM_NOT_VALID);
@@ -138,10 +146,10 @@ int main(int argc, char **argv)
     static const struct {
         const char *name;
         void (*run)(void);
-    } rows[] = {
-        {"points", points}, {"table", table},          {"last", last_table},           {"first", first_table},     {"values", values},
-        {"dump", dump},     {"marked", marked_points}, {"marked-table", marked_table}, {"marked-one", marked_one}, {"store", one_more},
-        {"swap", swapped},  {"release", release},      {"refused", refused},           {"set", set_time},          {"pair", both}};
+    } rows[] = {{"points", points},         {"table", table},     {"last", last_table},      {"first", first_table},
+                {"values", values},         {"dump", dump},       {"marked", marked_points}, {"marked-table", marked_table},
+                {"marked-one", marked_one}, {"store", one_more},  {"swap", swapped},         {"release", release},
+                {"follow", follow},         {"refused", refused}, {"set", set_time},         {"pair", both}};
     equip(POINTS);
     for (size_t i = 0; argc == 2 && i < sizeof rows / sizeof rows[0]; i++)
         if (strcmp(argv[1], rows[i].name) == 0) {
@@ -149,6 +157,6 @@ int main(int argc, char **argv)
             return 0;
         }
     fprintf(stderr, "usage: rows points | marked | marked-table | marked-one | table | last | first | values | dump | store | swap | "
-                    "release | refused | set | pair\n");
+                    "release | follow | refused | set | pair\n");
     return 2;
 }
