@@ -37,6 +37,8 @@ MACHINES = {
 # words of the toolchain's own that name x86-64, its input, its output or how much is done; all others go along
 OTHERS = ('--target=', '-march=', '-fPIC', '-O', '--sysroot=')
 SMALL = {'-Os': 'optsize', '-Oz': 'optsize minsize'}
+# small code has more functions in line than the compiler puts there by itself: these hand over no structure by memory, which is less code and stack
+IN_LINE = ['-mllvm', '-inline-threshold=250']
 
 
 def run(what, *command, **more):
@@ -152,7 +154,8 @@ def compiled(tools, module, text, triple, words, to):
 def words_for(triple, given):
     """The words of a machine: its own unless others are given, and small code unless another is wished."""
     words = [w for w in MACHINES.get(triple.split('-')[0], []) if not any(g.startswith(w.split('=')[0] + '=') for g in given)]
-    return words + ([] if any(g.startswith('-O') for g in given) else ['-Os']) + given
+    levels = [g for g in given if g.startswith('-O')] or ['-Os']
+    return words + (IN_LINE if levels[-1] == '-Os' else []) + levels + [g for g in given if g not in levels]
 
 
 def make(name, source, to, triple, given):
