@@ -1,6 +1,7 @@
 //! The configuration, and the three kinds of numbers that must not be mixed.
 
-use crate::history;
+use crate::means::Mean;
+use crate::{history, means};
 
 /// An input number: status, pulse accumulator or analog.
 #[derive(Clone, Copy, Debug, PartialEq, Eq)]
@@ -51,6 +52,8 @@ pub struct Config {
     pub outputs: [bool; 256],
     /// Which calculation numbers are equipped, valid to 7Fh.
     pub calculations: [bool; 256],
+    /// The calculations that are demand means, valid to 16.
+    pub means: Vec<Mean>,
     /// The number of values in a record of each file; None is not equipped.
     pub files: [Option<u8>; 32],
     /// Which files keep the oldest when full, while others drop it; an absent one may be marked.
@@ -72,13 +75,15 @@ impl Config {
             inputs: [false; 256],
             outputs: [false; 256],
             calculations: [false; 256],
+            means: Vec::new(),
             files: [None; 32],
             oldest: [true; 32],
             parameter_length: 0,
         }
     }
 
-    /// Whether a unit may have this configuration (document 01, below the outcome table).
+    /// Whether a unit may have this configuration (document 01, below the outcome table; its
+    /// means by document 02, request 4).
     pub fn valid(&self) -> bool {
         self.unit <= Self::LAST_UNIT
             && !self.inputs[0x20..=0x2F].contains(&true)
@@ -90,6 +95,7 @@ impl Config {
                 .flatten()
                 .all(|&v| (1..=history::MOST_VALUES).contains(&v))
             && self.parameter_length <= Self::LONGEST_PARAMETERS
+            && means::valid(self)
     }
 
     /// Whether the input is equipped.

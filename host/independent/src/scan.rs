@@ -1,10 +1,10 @@
 //! Scans: functions 00, 0Ah and 03, and the points behind them.
 
 use crate::config::{Calculation, Config, Input, InputKind};
-use crate::contacts;
 use crate::frame::{Frame, Reply};
 use crate::outcome;
 use crate::state::State;
+use crate::{contacts, means};
 
 /// The command bits of function 00 that are not reserved.
 pub const KIND_BITS: u8 = 0x4D;
@@ -127,25 +127,30 @@ pub fn calculations(config: &Config, state: &State, frame: &Frame, reply: &mut R
     }
 }
 
-/// The values of all equipped calculations, without their numbers.
+/// Whether the calculation is equipped, and ready if it is a mean.
+fn sendable(config: &Config, state: &State, number: Calculation) -> bool {
+    config.has_calculation(number) && means::ready(config, state, number)
+}
+
+/// The values of all calculations to be sent, without their numbers.
 fn all_calculations(config: &Config, state: &State, reply: &mut Reply) -> u8 {
-    let equipped = || {
+    let sent = || {
         (0..0x80)
             .map(Calculation)
-            .filter(|&n| config.has_calculation(n))
+            .filter(|&number| sendable(config, state, number))
     };
-    if 4 * equipped().count() > Reply::DATA_LIMIT {
+    if 4 * sent().count() > Reply::DATA_LIMIT {
         return outcome::TOO_LONG;
     }
-    for number in equipped() {
+    for number in sent() {
         reply.push_all(&value(state, number));
     }
     outcome::DONE
 }
 
-/// Number and value of each calculation asked for, or just the ones not equipped.
+/// Number and value of each calculation asked for, or just the ones not equipped or not ready.
 fn asked_calculations(config: &Config, state: &State, asked: &[u8], reply: &mut Reply) -> u8 {
-    let missing = |number: &&u8| !config.has_calculation(Calculation(**number));
+    let missing = |number: &&u8| !sendable(config, state, Calculation(**number));
     if asked.iter().any(|number| missing(&number)) {
         asked
             .iter()
@@ -190,9 +195,9 @@ pub fn set_word(config: &Config, state: &mut State, number: Input, word: u16) ->
     outcome::DONE
 }
 
-/// Sets a calculation's value.
+/// Sets a calculation's value; that of a mean comes from its samples alone.
 pub fn set_value(config: &Config, state: &mut State, number: Calculation, bits: u32) -> u8 {
-    if !config.has_calculation(number) {
+    if !config.has_calculation(number) || means::find(config, number).is_some() {
         return outcome::NOT_VALID;
     }
     state.values[usize::from(number.0)] = bits;

@@ -5,7 +5,7 @@ use crate::clock::Clock;
 use crate::config::{Config, Output};
 use crate::control::Select;
 use crate::history::{self, HistoryReply};
-use crate::{contacts, port};
+use crate::{contacts, means, port};
 
 /// The highest master address.
 pub const LAST_MASTER: u8 = 31;
@@ -40,6 +40,8 @@ pub struct State {
     pub changed: [u8; contacts::GROUPS],
     /// The value of each calculation number, as a 32-bit pattern.
     pub values: [u32; 128],
+    /// The last samples of each calculation number that is a mean, oldest first.
+    pub samples: Vec<Vec<i16>>,
     /// The blocks of ordinals 00, 03 and 0Bh.
     pub fixed: FixedArea,
     /// Milliseconds without a non-empty stretch, not over 60,000.
@@ -65,6 +67,7 @@ impl State {
             words: [0; 256],
             changed: [0; contacts::GROUPS],
             values: [0; 128],
+            samples: vec![Vec::new(); 128],
             fixed: FixedArea::EMPTY,
             silence: 0,
             mark: port::MARK_OK,
@@ -90,6 +93,7 @@ pub fn fits(config: &Config, state: &State, params_len: usize) -> bool {
         && state
             .write
             .is_none_or(|write| write.master <= LAST_MASTER && write.age <= Write::HOLD)
+        && means::in_range(config, state)
         && history::files_fit(config, state)
         && state
             .history

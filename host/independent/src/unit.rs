@@ -1,11 +1,12 @@
-//! The entries: one for a stretch, one for elapsed time, five for local events.
+//! The entries: one for a stretch, one for elapsed time, six for local events.
 
 use crate::config::{Calculation, Config, Input};
 use crate::control::Action;
 use crate::frame::{reply_function, Frame, Reply, Stretch, BROADCAST};
+use crate::means::Sampled;
 use crate::outcome::{self, Sent};
 use crate::state::{fits, State};
-use crate::{block, clock, contacts, control, history, port, scan};
+use crate::{block, clock, contacts, control, history, means, port, scan};
 
 /// What a stretch came to.
 #[derive(Clone, Copy, Debug, PartialEq, Eq)]
@@ -242,4 +243,17 @@ pub fn contact(config: &Config, state: &mut State, params: &[u8], contact: u8, o
         return outcome::NO_CONFIG;
     }
     contacts::report(config, state, contact, on)
+}
+
+/// Local event: samples the analog of a mean; refused by 8 or 17.
+pub fn sample(
+    config: &Config,
+    state: &mut State,
+    params: &[u8],
+    number: u8,
+) -> Result<Sampled, u8> {
+    if !fits(config, state, params.len()) {
+        return Err(outcome::NO_CONFIG);
+    }
+    means::sample(config, state, Calculation(number))
 }

@@ -203,7 +203,7 @@ fn state_out_of_range_answers_17_to_every_event_and_changes_nothing() {
         [17; 3]
     );
     assert_eq!([rig.store(99, 0, &[]), rig.pulses(0x99, 0)], [17; 2]);
-    assert_eq!(rig.contact(99, 9), 17);
+    assert_eq!((rig.contact(99, 9), rig.sample(99)), (17, Err(17)));
     assert_eq!(rig.state, before);
 }
 

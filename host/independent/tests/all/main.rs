@@ -13,6 +13,7 @@ mod history;
 mod kept;
 mod lag;
 mod master;
+mod means;
 mod newest;
 mod order;
 mod outcomes;

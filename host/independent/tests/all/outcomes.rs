@@ -265,6 +265,6 @@ fn fresh_unit_is_all_zero_at_day_1() {
     assert_eq!((state.bit7, state.bit3, state.bit2), (true, false, false));
     assert!(state.files.len() == 32 && state.files.iter().all(Vec::is_empty));
     assert!(state.words == [0; 256] && state.values == [0; 128] && state.dropped == [0; 32]);
-    assert_eq!(state.changed, [0; 32]);
+    assert!(state.changed == [0; 32] && state.samples.iter().all(Vec::is_empty));
     assert_eq!((state.silence, state.mark), (0, 0));
 }

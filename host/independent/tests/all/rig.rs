@@ -194,6 +194,10 @@ impl Rig {
         pulses(&self.config, &mut self.state, &self.params, number, count)
     }
 
+    pub fn sample(&mut self, number: u8) -> Result<Sampled, u8> {
+        sample(&self.config, &mut self.state, &self.params, number)
+    }
+
     /// Writes bytes into a block by WRITE and EXECUTE of a master.
     pub fn load(&mut self, master: u8, ordinal: u8, bias: u16, bytes: &[u8]) -> u8 {
         let [low, high] = bias.to_le_bytes();
