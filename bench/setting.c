@@ -60,14 +60,14 @@ static void fill(void)
         else if (osturdam_has_input(&u.config, i))
             expect("a word", set_word(&u, i, 257 * i + 3), OSTURDAM_DONE);
     for (int i = 0; i < 127; i++)
-        expect("a value", set_value(&u, i, 0x01030507u * i), OSTURDAM_DONE);
+        if (osturdam_mean_place(&u.config, i) == OSTURDAM_MEANS)
+            expect("a value", set_value(&u, i, 0x01030507u * i), OSTURDAM_DONE);
     ask(0x00, 0x04, "", 0, 0, OSTURDAM_DONE);
 }
 
 static void equip_all(int points, int files)
 {
     struct osturdam_config *c = &u.config;
-    memset(c, 0, sizeof *c);
     osturdam_put_number(c, UNIT);
     osturdam_put_length(c, OSTURDAM_BLOCK);
     for (int i = 0; i < OSTURDAM_INPUTS; i++)
@@ -87,13 +87,29 @@ static void equip_all(int points, int files)
 
 void equip(int points)
 {
+    memset(&u.config, 0, sizeof u.config);
     equip_all(points, OSTURDAM_FILES);
 }
 
 void equip_files(int files)
 {
+    memset(&u.config, 0, sizeof u.config);
     equip_all(POINTS, files);
     u.lent.room = osturdam_room_of(&u.config);
+}
+
+void equip_means(void)
+{
+    static const uint16_t windows[] = {1, 16, OSTURDAM_SAMPLES};
+    memset(&u.config, 0, sizeof u.config);
+    for (int i = 0; i < 3; i++)
+        osturdam_equip_mean(&u.config, i, i, 0x80, windows[i]);
+    equip_all(POINTS, OSTURDAM_FILES);
+    for (int i = 0; i < 3; i++)
+        for (int n = 0; n < windows[i]; n++) {
+            expect("a word", set_word(&u, 0x80, 7919 * n - 32768), OSTURDAM_DONE);
+            expect("a sample", take_sample(&u, i, 0), OSTURDAM_DONE);
+        }
 }
 
 void store(int file, int n)

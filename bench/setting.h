@@ -28,6 +28,9 @@ void store(int file, int n);
 // The table area, in two parts.
 void write_tables(const uint8_t area[256]);
 
+// Calculations 0, 1 and 2 are means of 1, 16 and 256 samples of input 80h, ready, besides what equip does.
+void equip_means(void);
+
 // The eight contacts of a group are in these states.
 void contacts(int group, unsigned states);
 

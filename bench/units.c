@@ -47,6 +47,28 @@ COUNTED uint8_t rust_store(struct units *u, uint8_t file, uint8_t event, const u
     return rust_store_record(u->rust, file, event, given, many);
 }
 
+static struct osturdam_sampled sample_here(struct units *u, uint8_t calculation)
+{
+    struct osturdam_sampled sampled;
+    osturdam_take_sample(&u->lent, calculation, &sampled);
+    return sampled;
+}
+
+COUNTED struct osturdam_sampled library_sample(struct units *u, uint8_t calculation)
+{
+    return sample_here(u, calculation);
+}
+
+COUNTED struct plain_sampled plain_sample(struct units *u, uint8_t calculation)
+{
+    return plain_take_sample(&u->plain_config, &u->plain, calculation);
+}
+
+COUNTED struct plain_sampled rust_sample(struct units *u, uint8_t calculation)
+{
+    return rust_take_sample(u->rust, calculation);
+}
+
 static uint8_t agreed(const char *what, int library, int plain, int rust)
 {
     if (library != plain || library != rust) {
@@ -127,6 +149,10 @@ void fresh(struct units *u)
     memcpy(p->files, c->files, sizeof p->files);
     memcpy(p->values, c->values, sizeof p->values);
     memcpy(p->oldest, c->oldest, sizeof p->oldest);
+    memcpy(p->means, c->means, sizeof p->means);
+    memcpy(p->sampled, c->sampled, sizeof p->sampled);
+    for (int i = 0; i < OSTURDAM_MEANS; i++)
+        p->windows[i] = osturdam_window_of(c, i);
     plain_fresh(&u->plain);
     u->rust = rust_fresh(p);
 }
@@ -212,4 +238,23 @@ uint8_t set_value(struct units *u, uint8_t calculation, uint32_t value)
 {
     return agreed("value", osturdam_take_value(&u->lent, calculation, value),
                   plain_set_value(&u->plain_config, &u->plain, calculation, value), rust_set_value(u->rust, calculation, value));
+}
+
+static int bits_of(float mean)
+{
+    int bits;
+    memcpy(&bits, &mean, sizeof bits);
+    return bits;
+}
+
+uint8_t take_sample(struct units *u, uint8_t calculation, int counted)
+{
+    if (counted && cycles_asked())
+        TELL_UNITS(sample, calculation);
+    struct osturdam_sampled library = counted ? library_sample(u, calculation) : sample_here(u, calculation);
+    struct plain_sampled plain = counted ? plain_sample(u, calculation) : plain_take_sample(&u->plain_config, &u->plain, calculation);
+    struct plain_sampled rust = counted ? rust_sample(u, calculation) : rust_take_sample(u->rust, calculation);
+    agreed("missing", library.missing, plain.missing, rust.missing);
+    agreed("mean", (int)library.mean, bits_of(plain.mean), bits_of(rust.mean));
+    return agreed("sample", library.outcome, plain.outcome, rust.outcome);
 }

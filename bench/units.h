@@ -16,6 +16,7 @@ uint8_t rust_set_word(struct rust_unit *u, uint8_t input, uint16_t word);
 uint8_t rust_contact(struct rust_unit *u, uint8_t contact, uint8_t state);
 uint8_t rust_pulses(struct rust_unit *u, uint8_t input, uint16_t count);
 uint8_t rust_set_value(struct rust_unit *u, uint8_t calculation, uint32_t value);
+struct plain_sampled rust_take_sample(struct rust_unit *u, uint8_t calculation);
 uint8_t rust_store_record(struct rust_unit *u, uint8_t file, uint8_t event, const uint16_t *given, size_t many);
 struct rust_unit *rust_copy(const struct rust_unit *u);
 void rust_end(struct rust_unit *u);
@@ -36,7 +37,7 @@ void fresh(struct units *u);
 // Lays a frame out; its length.
 size_t frame(uint8_t *to, unsigned master, unsigned unit, unsigned function, unsigned command, const void *data, size_t count);
 
-// Events of all three; each answers the outcome that they agree on. Stretch and store are counted where so asked; where cycles
+// Events of all three; each answers the outcome that they agree on. Stretch, store and sample are counted where so asked; where cycles
 // are asked for (cycles.h), those of a counted event are printed first.
 uint8_t stretch(struct units *u, const uint8_t *stretch, size_t heard, int counted);
 uint8_t store_record(struct units *u, uint8_t file, uint8_t event, const uint16_t *given, size_t many, int counted);
@@ -45,5 +46,6 @@ uint8_t set_word(struct units *u, uint8_t input, uint16_t word);
 uint8_t contact(struct units *u, uint8_t contact, uint8_t state);
 uint8_t pulses(struct units *u, uint8_t input, uint16_t count);
 uint8_t set_value(struct units *u, uint8_t calculation, uint32_t value);
+uint8_t take_sample(struct units *u, uint8_t calculation, int counted);
 
 #endif

@@ -268,7 +268,7 @@ static void packed(void)
         expect("a record's event at its place", 1 + i / 3, record[0]);
         expect("a record's first value at its place", 0x1234, osturdam_word_at(record + OSTURDAM_RECORD_HEAD));
     }
-    for (int i = ASKED; i < OSTURDAM_RECORDS; i++)
+    for (int i = ASKED; i < OSTURDAM_LENT; i++)
         expect("a character behind the records", 0, all.records[i]);
     lent.room = ASKED - 1;
     EXPECT(OSTURDAM_NOT_CONFIGURED, osturdam_wait(&lent, 0));
@@ -361,7 +361,7 @@ static void lags(void)
 /* Every limit of a configuration is taken by `begin`; one more is not. */
 static void configurations(void)
 {
-    static uint8_t block[OSTURDAM_BLOCK + 1], records[OSTURDAM_RECORDS + 1];
+    static uint8_t block[OSTURDAM_BLOCK + 1], records[OSTURDAM_LENT + 1];
     begin();
     EXPECT(OSTURDAM_DONE, osturdam_wait(&lent, 0));
     expect("a valid configuration", 1, osturdam_is_valid(&config));

@@ -9,7 +9,7 @@
 #include <stdlib.h>
 
 enum { MOST_EVENTS = 48, AGAIN = 509, ABOUT = 2, HALF = 127 };
-enum flags { ANY_CONFIG = 1, ANY_STATE = 2, NULLS = 4, MOST_ROOM = 8 };
+enum flags { ANY_CONFIG = 1, ANY_STATE = 2, NULLS = 4, MOST_ROOM = 8, MEANS = 16 };
 enum to { OWN, ALL, ANOTHER, BEHIND };
 
 /* Functions with the commands that they have; below the high nibble of a file's or table's command any file or table. */
@@ -73,6 +73,20 @@ static void configure(unsigned seed, unsigned density)
         lent[CONFIG].at[OSTURDAM_AT_VALUES - OSTURDAM_AT_NUMBER + f] = (uint8_t)(1 + mixed(seed, f) % OSTURDAM_VALUES);
 }
 
+/* Means wherever their calculation and analog are equipped: over 2 samples in the second half of the places, over any number in the first. */
+static void configure_means(unsigned seed)
+{
+    struct osturdam_config c;
+    memcpy(&c, lent[CONFIG].at, sizeof c);
+    for (uint8_t place = 0; place < OSTURDAM_MEANS; place++) {
+        uint8_t calculation = (uint8_t)(8 * place), analog = (uint8_t)(0x80 + mixed(seed, place) % 4);
+        uint16_t samples = place < OSTURDAM_MEANS / 2 ? (uint16_t)(1u << mixed(seed, place + 1u) % 9) : 2;
+        if (osturdam_has_calculation(&c, calculation) && osturdam_has_input(&c, analog))
+            osturdam_equip_mean(&c, place, calculation, analog, samples);
+    }
+    memcpy(lent[CONFIG].at, &c, sizeof c);
+}
+
 /* What the configuration asks for. */
 static size_t asked_here(void)
 {
@@ -89,12 +103,14 @@ static void begin(struct call *c)
     c->nulls = (flags & NULLS) != 0;
     length = any ? length : length % (OSTURDAM_BLOCK + 1);
     configure(seed, density);
+    if ((flags & MEANS) != 0)
+        configure_means(seed);
     if (any)
         fill(CONFIG, seed);
     osturdam_word_to(lent[CONFIG].at, (uint16_t)(any ? unit : unit % LINE_BROADCAST));
     osturdam_word_to(lent[CONFIG].at + OSTURDAM_AT_LENGTH - OSTURDAM_AT_NUMBER, (uint16_t)length);
     lent_place(BLOCK, length <= lent_most(BLOCK) ? length : 0);
-    lent_place(RECORDS, (flags & MOST_ROOM) != 0 || asked_here() > OSTURDAM_RECORDS ? OSTURDAM_RECORDS : asked_here());
+    lent_place(RECORDS, (flags & MOST_ROOM) != 0 || asked_here() > OSTURDAM_LENT ? OSTURDAM_LENT : asked_here());
     lent_place(BUFFER, room % (lent_most(BUFFER) + 1));
     lent_place(STRETCH, 0);
     lent_place(GIVEN, 0);
@@ -190,6 +206,10 @@ static void read_change(void)
         {UNIT, OSTURDAM_AT_LAYOUT, OSTURDAM_AT_NUMBER - OSTURDAM_AT_LAYOUT},
         {UNIT, OSTURDAM_AT_OLDEST, OSTURDAM_FILES},
         {UNIT, OSTURDAM_AT_DROPPED, OSTURDAM_UNIT - OSTURDAM_AT_DROPPED},
+        {UNIT, OSTURDAM_AT_MEANS, OSTURDAM_MEANS},
+        {UNIT, OSTURDAM_AT_SAMPLED, OSTURDAM_MEANS},
+        {UNIT, OSTURDAM_AT_WINDOWS, 2 * OSTURDAM_MEANS},
+        {UNIT, OSTURDAM_AT_TAKEN, 2 * OSTURDAM_MEANS},
     };
     size_t which = next(1) % (sizeof of / sizeof of[0]);
     enum part part = of[which].part;
@@ -226,6 +246,7 @@ static bool read_event(struct call *c)
 {
     unsigned kind = next(1) % 16;
     switch (kind) {
+    case 4: c->kind = SAMPLE, c->number = (uint8_t)next(1); return true;
     case 5: lag = next(4); return false;
     case 6: read_stretch(c); return true;
     case 7: read_local(c, ELAPSE); return true;

@@ -4,6 +4,7 @@
 #include "lent.h"
 #include "line.h"
 #include "osturdam.h"
+#include "sampled.h"
 
 #include <stdio.h>
 #include <stdlib.h>
@@ -11,7 +12,7 @@
 enum { SHORTEST_REPLY = 9 };
 
 /* The regions of a unit's memory, of which each kind of event may change some. */
-enum region { LAYOUT, CONFIGURATION, NUMBERS, WORDS, RESULTS, FIXED, COUNTS, DROPPED, CHANGED, REGIONS };
+enum region { LAYOUT, CONFIGURATION, NUMBERS, WORDS, RESULTS, FIXED, COUNTS, DROPPED, CHANGED, TAKEN, REGIONS };
 static const struct {
     const char *name;
     size_t from, to;
@@ -24,7 +25,8 @@ static const struct {
     [FIXED] = {"fixed", OSTURDAM_AT_FIXED, OSTURDAM_AT_COUNTS},
     [COUNTS] = {"counts", OSTURDAM_AT_COUNTS, OSTURDAM_AT_DROPPED},
     [DROPPED] = {"numbers dropped", OSTURDAM_AT_DROPPED, OSTURDAM_AT_CHANGED},
-    [CHANGED] = {"contacts that changed", OSTURDAM_AT_CHANGED, OSTURDAM_UNIT},
+    [CHANGED] = {"contacts that changed", OSTURDAM_AT_CHANGED, OSTURDAM_AT_TAKEN},
+    [TAKEN] = {"samples in", OSTURDAM_AT_TAKEN, OSTURDAM_UNIT},
 };
 
 /* What each kind of event may change, as bits of parts and of regions. */
@@ -39,6 +41,7 @@ static const struct {
     [SET_VALUE] = {0, 1u << RESULTS},
     [STORE] = {1u << RECORDS, 1u << NUMBERS | 1u << COUNTS | 1u << DROPPED},
     [CONTACT] = {0, 1u << WORDS | 1u << CHANGED},
+    [SAMPLE] = {1u << RECORDS, 1u << RESULTS | 1u << TAKEN},
 };
 
 static struct picture *before, *after;
@@ -71,11 +74,12 @@ static uint8_t *place(const struct call *c, enum part part)
     return c->nulls && lent[part].length == 0 ? NULL : lent[part].at;
 }
 
-/* How a call ended; but for a stretch it is the outcome alone. */
+/* How a call ended; but for a stretch and a sample it is the outcome alone. */
 struct answer {
     uint8_t outcome;
     uint16_t sent;
     uint8_t action, output;
+    uint8_t sampled[CALL_SAMPLED];
 };
 
 /* How each call of the library begins: unit, parameter block. */
@@ -85,12 +89,20 @@ struct answer {
 static struct answer heard(const struct call *c)
 {
     const uint8_t *turned = lent[TURNED].at;
-    struct answer a = {0, 0, 0, 0};
+    struct answer a = {0, 0, 0, 0, {0}};
     a.outcome =
         osturdam_stretch(LENT, place(c, BUFFER), lent[BUFFER].length, place(c, STRETCH), lent[STRETCH].length, c->value, lent[TURNED].at);
     a.sent = osturdam_word_at(turned);
     a.action = turned[2];
     a.output = turned[3];
+    return a;
+}
+
+static struct answer sampled(const struct call *c)
+{
+    struct answer a = {0, 0, 0, 0, {0}};
+    a.outcome = osturdam_sample(LENT, c->number, lent[TURNED].at);
+    memcpy(a.sampled, lent[TURNED].at, CALL_SAMPLED);
     return a;
 }
 
@@ -110,9 +122,11 @@ static uint8_t local(const struct call *c)
 
 static struct answer made(const struct call *c)
 {
-    struct answer a = {0, 0, 0, 0};
+    struct answer a = {0, 0, 0, 0, {0}};
     if (c->kind == HEAR)
         return heard(c);
+    if (c->kind == SAMPLE)
+        return sampled(c);
     a.outcome = local(c);
     return a;
 }
@@ -286,10 +300,21 @@ static void check_told(const struct call *c, uint8_t outcome)
         check_group(c, group, (kinds && s[3] & 4) || (done && s[2] == 0x0A), kinds && s[3] & 4);
 }
 
-static void check_local(const struct call *c, uint8_t outcome)
+static void check_sampled(const struct call *c, const struct answer *t)
 {
+    struct osturdam_unit u = unit_in(before), left = unit_in(after);
+    const uint8_t *records = picture_part(before, RECORDS);
+    const char *wrong = sample_wrong(&u, &left, records, lent[RECORDS].at, c->number, t->outcome, t->sampled);
+    hold(wrong == NULL, c, "of a sample:", wrong == NULL ? "" : wrong);
+}
+
+static void check_local(const struct call *c, const struct answer *t)
+{
+    uint8_t outcome = t->outcome;
     if (c->kind == STORE)
         check_stored(c, outcome);
+    else if (c->kind == SAMPLE)
+        check_sampled(c, t);
     else if (c->kind == CONTACT)
         check_contact(c, outcome);
     else
@@ -308,14 +333,19 @@ static void check_answer(const struct call *c, const struct answer *t)
         check_lag(c, t->outcome);
         check_told(c, t->outcome);
     } else if (!refused) {
-        check_local(c, t->outcome);
+        check_local(c, t);
     }
+    struct osturdam_unit u = unit_in(before);
+    const uint8_t *records = picture_part(before, RECORDS);
+    hold(!fit || c->kind == SAMPLE || samples_kept(&u.config, records, lent[RECORDS].at, OSTURDAM_MEANS), c, "changed:", "samples");
+    hold(t->outcome == OSTURDAM_DONE || zeros(t->sampled, sizeof t->sampled), c, "a refusal told", "a mean");
     hold(!fit || fits(after), c, "a unit in range was left out of it", "");
 }
 
 static bool same(const struct answer *a, const struct answer *b)
 {
-    return a->sent == b->sent && a->outcome == b->outcome && a->action == b->action && a->output == b->output;
+    return a->sent == b->sent && a->outcome == b->outcome && a->action == b->action && a->output == b->output &&
+           memcmp(a->sampled, b->sampled, sizeof a->sampled) == 0;
 }
 
 void call_checked(const struct call *c)
@@ -324,6 +354,7 @@ void call_checked(const struct call *c)
         before = picture_new();
         after = picture_new();
     }
+    lent_place(TURNED, c->kind == SAMPLE ? CALL_SAMPLED : CALL_TURNED);
     picture_take(before);
     struct answer first = made(c);
     picture_take(after);

@@ -6,9 +6,9 @@
 #include <stddef.h>
 #include <stdint.h>
 
-enum kind { BEGIN, HEAR, ELAPSE, SET_WORD, PULSE, SET_VALUE, STORE, CONTACT };
+enum kind { BEGIN, HEAR, ELAPSE, SET_WORD, PULSE, SET_VALUE, STORE, CONTACT, SAMPLE };
 
-enum { CALL_TURNED = 4 }; /* characters in which a stretch is answered */
+enum { CALL_SAMPLED = 6, CALL_TURNED = 4 }; /* characters in which a sample and a stretch are answered */
 
 struct call {
     enum kind kind;

@@ -14,7 +14,7 @@ enum {
     PAINT = 0xA5,
     PAINTED = 64,
     MOST_BLOCK = 600,
-    MOST_RECORDS = OSTURDAM_RECORDS + 100,
+    MOST_RECORDS = OSTURDAM_LENT + 100,
     MOST_BUFFER = 1100,
     MOST_STRETCH = 700,
     MOST_GIVEN = 80
@@ -31,7 +31,7 @@ static const struct {
     [BUFFER] = {"buffer", MOST_BUFFER},
     [STRETCH] = {"stretch", MOST_STRETCH},
     [GIVEN] = {"given", MOST_GIVEN},
-    [TURNED] = {"turned", CALL_TURNED},
+    [TURNED] = {"turned", CALL_SAMPLED},
 };
 
 struct part_lent lent[PARTS];

@@ -13,6 +13,10 @@
 
 #define GIVEN uint8_t *unit, const uint8_t *block, uint64_t length, const uint8_t *records, uint64_t room, uint8_t contact, uint8_t state
 
+#define SAMPLED uint8_t *unit, const uint8_t *block, uint64_t length, uint8_t *records, uint64_t room, uint8_t calculation, uint8_t *sampled
+
+uint8_t __real_osturdam_sample(SAMPLED);
+uint8_t __wrap_osturdam_sample(SAMPLED);
 uint8_t __real_osturdam_contact(GIVEN);
 uint8_t __wrap_osturdam_contact(GIVEN);
 uint8_t __real_osturdam_store_record(STORED);
@@ -75,6 +79,27 @@ uint8_t __wrap_osturdam_contact(GIVEN)
     switch (PLANTED) {
     case 20: if (outcome == OSTURDAM_DONE) unit[OSTURDAM_AT_WORDS + contact / 8 * 2 + 1] |= unit[OSTURDAM_AT_CHANGED + contact / 8]; break; /* marked at once */
     case 21: if (outcome == OSTURDAM_NOT_VALID && state > 1) outcome = OSTURDAM_DONE; break; /* a state that is none is taken */
+    }
+    /* clang-format on */
+    return outcome;
+}
+
+uint8_t __wrap_osturdam_sample(SAMPLED)
+{
+    uint8_t outcome = __real_osturdam_sample(unit, block, length, records, room, calculation, sampled);
+    const struct osturdam_config *c = (const struct osturdam_config *)(unit + OSTURDAM_AT_NUMBER);
+    bool done = outcome == OSTURDAM_DONE, ready = done && osturdam_word_at(sampled) == 0,
+         zero = ready && osturdam_value_at(sampled + 2) == 0;
+    uint8_t *value = unit + OSTURDAM_AT_RESULTS + 4 * (calculation % OSTURDAM_CALCULATIONS), place = osturdam_mean_place(c, calculation);
+    uint64_t last = osturdam_samples_place(c, place) + 2u * osturdam_window_of(c, place);
+    /* clang-format off */
+    switch (PLANTED) {
+    case 22: if (zero) value[3] = sampled[5] = 0x80; break;                           /* a sum of 0 gives minus zero */
+    case 23: if (ready) value[3] = sampled[5] &= 0x7F; break;                         /* samples without a sign */
+    case 24: if (done && !ready) sampled[0]--; break;                                 /* one sample fewer is missing */
+    case 25: if (done && last < room) records[last] ^= 1; break;                      /* written behind the samples of its mean */
+    case 26: if (ready) unit[OSTURDAM_AT_TAKEN + 2 * place]--; break;                 /* a mean that is not ready again */
+    case 27: if (outcome == OSTURDAM_NOT_VALID) sampled[5] = 1; break;                /* a refusal with a mean */
     }
     /* clang-format on */
     return outcome;

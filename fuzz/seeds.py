@@ -11,9 +11,9 @@ import struct
 FOLDER = os.path.dirname(os.path.abspath(__file__))
 with open(os.path.join(FOLDER, '../include/osturdam.h'), encoding='utf-8') as header:
     NUMBERS = {name: int(number) for name, number in re.findall(r'^    OSTURDAM_(\w+) = (\d+)\b', header.read(), re.M)}
-BLOCK, REPLY, RECORDS, ROOM = (NUMBERS[name] for name in ('BLOCK', 'REPLY', 'RECORDS', 'ROOM'))
+BLOCK, REPLY, MOST, ROOM = (NUMBERS[name] for name in ('BLOCK', 'REPLY', 'LENT', 'ROOM'))
 FRAME, VALUES, HOLD, SILENT, LAG, LAYOUT = (NUMBERS[name] for name in ('FRAME', 'VALUES', 'HOLD_MS', 'SILENT_MS', 'LAG_MS', 'LAYOUT'))
-ANY_CONFIG, ANY_STATE, NULLS, MOST_ROOM = 1, 2, 4, 8
+ANY_CONFIG, ANY_STATE, NULLS, MOST_ROOM, MEANS = 1, 2, 4, 8, 16
 OWN, ALL, ANOTHER, BEHIND = 0, 1, 2, 3
 COMMANDS = [(0x00, 0x41), (0x00, 0x4D), (0x03, 0x00), (0x03, 0x80), (0x04, 0x00), (0x04, 0x20), (0x04, 0x40), (0x04, 0x60), (0x0A, 0x40), (0x10, 0x10),
             (0x10, 0x11), (0x10, 0x20), (0x10, 0x21), (0x20, 0x00), (0x20, 0x11), (0x20, 0x30), (0x20, 0x31), (0x20, 0x38), (0x28, 0x30), (0x28, 0x31)]
@@ -49,6 +49,15 @@ def word(number, value):
 
 def contact(number, state):
     return bytes([12, number, state])
+
+
+def sample(number):
+    return bytes([4, number])
+
+
+def analogs(value):
+    """All that the means of fuzz/border.c may sample."""
+    return b''.join(word(0x80 + n, value) for n in range(4))
 
 
 def pulses(number, count):
@@ -107,6 +116,14 @@ INPUTS = {
                 + contact(255, 1) + contact(255, 1) + contact(7, 0xF2) + word(0x00, 1) + write(3, 0, bytes([0, 3, 31, 0, 31])) + contact(255, 0)
                 + frame(0x0A, 0x40, low=1) + frame(0x0A, 0x40, low=1),
     'contacts-sparse': head(density=60) + b''.join(contact(n, 1) for n in range(0, 256, 8)) + SCAN,
+    'means': head(MEANS) + frame(0x03, 0x00, bytes([64, 0, 64])) + frame(0x03, 0x80) + analogs(0xFFF9) + sample(64) + frame(0x03, 0x80)
+             + analogs(7) + sample(64) + frame(0x03, 0x00, bytes([64, 1])) + sample(64) + frame(0x20, 0x00) + frame(0x03, 0x00, bytes([64])),
+    'means-limits': head(MEANS) + analogs(0x8000) + sample(72) * 2 + analogs(0x7FFF) + sample(80) * 2 + sample(72) + b''.join(sample(8 * p) * 2 for p in range(8)),
+    'means-refused': head(MEANS) + sample(1) + sample(128) + sample(255) + value(64, 1) + value(1, 1) + about(-1) + sample(64) + about(0) + sample(64),
+    'means-faults': head(MEANS | MOST_ROOM) + sample(64) + changed(14, 16, 3) + sample(64) + changed(14, 16, 2) + changed(12, 8, 72) + sample(72)
+                    + changed(12, 8, 64) + changed(13, 8, 0x30) + SCAN + changed(13, 8, 0x80) + changed(15, 16, 3) + sample(64) + changed(15, 16, 2) + sample(64),
+    'means-records': head(MEANS) + analogs(5) + sample(64) * 3 + record(31) * 3 + record(0) + DUMP + DUMP + frame(0x04, 0x60, low=31) * 2 + sample(64),
+    'means-sparse': head(MEANS, density=128) + analogs(0x1234) + b''.join(sample(8 * p) for p in range(16)) + frame(0x03, 0x80),
     'sparse': head(density=60) + word(0x30, 1) + SCAN + frame(0x03, 0x80) + frame(0x20, 0x11, b'\x41'),
     'values': head(density=200) + value(5, 0x7FC00001) + frame(0x03, 0x80) + frame(0x03, 0x00, bytes(range(100))) + frame(0x03, 0x00, bytes(103)),
     'too-long': head() + frame(0x03, 0x80) + frame(0x03, 0x00, bytes(128)),
@@ -144,7 +161,7 @@ INPUTS = {
     'nulls': head(NULLS, length=0, room=0) + stretch(b'') + room(REPLY) + stretch(b'') + frame(0x28, 0x30, b'\0\0\6\0') + elapsed(0),
     'block-other': head() + block(BLOCK - 1) + SCAN + block(BLOCK + 1) + elapsed(1) + block(BLOCK) + SCAN,
     'records': head() + about(0) + record(0) + SCAN + about(1) + DUMP + SCAN + about(-1) + SCAN + record(0) + elapsed(1),
-    'records-most': head(MOST_ROOM) + record(0) + SCAN + records(RECORDS + 1) + DUMP + SCAN + records(RECORDS - 1) + SCAN + about(2) + SCAN,
+    'records-most': head(MOST_ROOM) + record(0) + SCAN + records(MOST + 1) + DUMP + SCAN + records(MOST - 1) + SCAN + about(2) + SCAN,
     'records-last': head() + record(31) * (ROOM + 1) + frame(0x04, 0x60, low=31) * 4 + about(-1) + frame(0x04, 0x60, low=31),
     'records-sparse': head(density=60) + b''.join(record(f) for f in range(32)) + b''.join(frame(0x04, 0x60, low=f) for f in range(0, 32, 3)),
     'records-changed': head(MOST_ROOM) + record(5) + changed(3, 0, 16) + DUMP + changed(2, 0, 0) + SCAN + frame(0x04, 0x60, low=5) + about(0) + SCAN,

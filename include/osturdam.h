@@ -36,7 +36,7 @@ extern "C" {
 /* Of this interface: one more where a call changes, or the meaning of what it takes. Where a unit's memory changes, OSTURDAM_LAYOUT is
  * another, and a unit that was stored in another layout is OSTURDAM_NOT_CONFIGURED. A program holds this header to its library once, before
  * its first unit: osturdam_layout() == OSTURDAM_LAYOUT. */
-#define OSTURDAM_VERSION 6
+#define OSTURDAM_VERSION 7
 
 /* ---- limits, lengths, and where a unit's parts lie in its memory */
 
@@ -48,6 +48,8 @@ enum {
     OSTURDAM_CALCULATIONS = 128,    /* calculation values kept */
     OSTURDAM_FILES = 32,            /* history files */
     OSTURDAM_GROUPS = 32,           /* groups of eight contacts: the inputs of two-bit status */
+    OSTURDAM_MEANS = 16,            /* the most calculations that are means of samples */
+    OSTURDAM_SAMPLES = 256,         /* the most samples that a mean is over */
     OSTURDAM_FIXED = 528,           /* characters of the blocks of fixed length */
     OSTURDAM_BLOCK = 512,           /* the longest parameter block */
     OSTURDAM_FRAME = 136,           /* the longest frame of a master */
@@ -58,12 +60,13 @@ enum {
     OSTURDAM_DROPPED = 65535,       /* the most records of a file that are told as dropped */
     OSTURDAM_RECORD_HEAD = 6,       /* a record's characters before its values: event and clock */
     OSTURDAM_RECORDS = 38912,       /* the most characters of records that a configuration asks for */
+    OSTURDAM_LENT = 47104,          /* the most characters of records and samples that it asks for */
     OSTURDAM_HOLD_MS = 5000,        /* for how long a select or a write is held */
     OSTURDAM_SILENT_MS = 60000,     /* after how long with no stretch a port is silent */
     OSTURDAM_LAG_MS = 10000,        /* the longest lag with which a Set Time is taken */
-    OSTURDAM_CONFIG = 868,          /* characters of a configuration, which lies from AT_NUMBER on in a unit's memory */
-    OSTURDAM_UNIT = 2602,           /* characters of a unit's memory */
-    OSTURDAM_LAYOUT = 4,            /* the number of this layout, which stands first in the memory */
+    OSTURDAM_CONFIG = 932,          /* characters of a configuration, which lies from AT_NUMBER on in a unit's memory */
+    OSTURDAM_UNIT = 2698,           /* characters of a unit's memory */
+    OSTURDAM_LAYOUT = 5,            /* the number of this layout, which stands first in the memory */
     OSTURDAM_AT_LAYOUT = 0,
     OSTURDAM_AT_NUMBER = 2,
     OSTURDAM_AT_LENGTH = 4,
@@ -73,18 +76,22 @@ enum {
     OSTURDAM_AT_FILES = 774,
     OSTURDAM_AT_VALUES = 806,
     OSTURDAM_AT_OLDEST = 838,
-    OSTURDAM_AT_NUMBERS = 870,
-    OSTURDAM_AT_WORDS = 922,
-    OSTURDAM_AT_RESULTS = 1434,
-    OSTURDAM_AT_FIXED = 1946,
-    OSTURDAM_AT_COUNTS = 2474,
-    OSTURDAM_AT_DROPPED = 2506,
-    OSTURDAM_AT_CHANGED = 2570,
-    OSTURDAM_AT_00 = 1946,          /* the block of ordinal 00h */
+    OSTURDAM_AT_MEANS = 870,
+    OSTURDAM_AT_SAMPLED = 886,
+    OSTURDAM_AT_WINDOWS = 902,
+    OSTURDAM_AT_NUMBERS = 934,
+    OSTURDAM_AT_WORDS = 986,
+    OSTURDAM_AT_RESULTS = 1498,
+    OSTURDAM_AT_FIXED = 2010,
+    OSTURDAM_AT_COUNTS = 2538,
+    OSTURDAM_AT_DROPPED = 2570,
+    OSTURDAM_AT_CHANGED = 2634,
+    OSTURDAM_AT_TAKEN = 2666,
+    OSTURDAM_AT_00 = 2010,          /* the block of ordinal 00h */
     OSTURDAM_LENGTH_00 = 16,
-    OSTURDAM_AT_03 = 1962,          /* the block of ordinal 03h */
+    OSTURDAM_AT_03 = 2026,          /* the block of ordinal 03h */
     OSTURDAM_LENGTH_03 = 256,
-    OSTURDAM_AT_0B = 2218,          /* the block of ordinal 0Bh */
+    OSTURDAM_AT_0B = 2282,          /* the block of ordinal 0Bh */
     OSTURDAM_LENGTH_0B = 256
 };
 /* to here */
@@ -212,6 +219,9 @@ struct osturdam_config {
     uint8_t files[OSTURDAM_FILES];
     uint8_t values[OSTURDAM_FILES];         /* of each equipped file: 1 to OSTURDAM_VALUES */
     uint8_t oldest[OSTURDAM_FILES];         /* 0: full, it drops its oldest record for a new one; any other: it keeps the oldest */
+    uint8_t means[OSTURDAM_MEANS];          /* of each place for a mean: an equipped calculation, which no other place has */
+    uint8_t sampled[OSTURDAM_MEANS];        /* the equipped analog that is sampled for it */
+    uint8_t windows[2 * OSTURDAM_MEANS];    /* over how many samples it is: 1, 2, 4 to OSTURDAM_SAMPLES; 0: the place is not used */
 };
 
 struct osturdam_unit {
@@ -224,25 +234,27 @@ struct osturdam_unit {
     uint8_t counts[OSTURDAM_FILES];         /* how many records each file holds */
     uint8_t dropped[2 * OSTURDAM_FILES];    /* and how many it has dropped */
     uint8_t changed[OSTURDAM_GROUPS];       /* of each group of contacts: which have changed since its last reply */
+    uint8_t taken[2 * OSTURDAM_MEANS];      /* of each place for a mean: how many samples are in */
 };
 
 /* What a unit's caller lends. Each equipped file has room for OSTURDAM_ROOM records of its own length, one behind the other with the oldest
- * first; the files lie by their numbers with nothing between them, and one that is not equipped takes nothing (osturdam_record_place). Fewer
- * characters of records than the configuration asks for (osturdam_room_of) are OSTURDAM_NOT_CONFIGURED, and so is a block of another length
- * than its own; of more, what lies behind those that it asks for is never touched. */
+ * first; the files lie by their numbers with nothing between them, and one that is not equipped takes nothing (osturdam_record_place). Behind
+ * them each mean has room for as many samples as it is over, two characters each, in the order of the places (osturdam_samples_place). Fewer
+ * characters than the configuration asks for (osturdam_room_of) are OSTURDAM_NOT_CONFIGURED, and so is a block of another length than its own;
+ * of more, what lies behind those that it asks for is never touched. */
 struct osturdam_lent {
     struct osturdam_unit *unit;
     uint8_t *block;                         /* the parameter block */
     uint64_t length;                        /* of the parameter block */
-    uint8_t *records;
-    uint64_t room;                          /* characters of records */
+    uint8_t *records;                       /* and the samples behind them */
+    uint64_t room;                          /* characters of records and samples */
 };
 
 /* A unit that lies all together, whatever its configuration asks for. */
 struct osturdam_together {
     struct osturdam_unit unit;
     uint8_t block[OSTURDAM_BLOCK];          /* its first characters are the parameter block */
-    uint8_t records[OSTURDAM_RECORDS];      /* its first characters are the files */
+    uint8_t records[OSTURDAM_LENT];         /* its first characters are the files, and behind them the samples */
 };
 
 /* What a stretch comes with: to be filled by the fields' names, the others 0, since fields may be added.
@@ -269,6 +281,13 @@ struct osturdam_turned {
     enum osturdam_action action;
     uint8_t output;                         /* the control output of the action */
 };
+
+/* What became of a sample: a mean, or how many samples are still missing. Where it was not taken both are 0. */
+struct osturdam_sampled {
+    enum osturdam_outcome outcome;
+    uint16_t missing;                       /* 0: the mean is ready */
+    uint32_t mean;                          /* the 32 bits of a single-precision float; 0 until it is ready */
+};
 /* clang-format on */
 
 /* ---- what the library exports; the calls further down are made of these */
@@ -283,7 +302,7 @@ uint16_t osturdam_check(uint16_t start, const uint8_t *chars, uint64_t count);
 /* 1 for a configuration that a unit can have, else 0. */
 uint8_t osturdam_valid(const uint8_t config[OSTURDAM_CONFIG]);
 
-/* How many characters of records a configuration asks for. */
+/* How many characters of records and samples a configuration asks for. */
 uint64_t osturdam_room(const uint8_t config[OSTURDAM_CONFIG]);
 
 /* How many records of a file a unit has dropped: to OSTURDAM_DROPPED, where it stays. Nothing clears it but osturdam_fresh. */
@@ -313,6 +332,11 @@ uint8_t osturdam_set_value(uint8_t unit[OSTURDAM_UNIT], const uint8_t *block, ui
 
 uint8_t osturdam_store_record(uint8_t unit[OSTURDAM_UNIT], const uint8_t *block, uint64_t length, uint8_t *records, uint64_t room,
                               uint8_t file, uint8_t event, const uint16_t *values, uint64_t many);
+
+/* `sampled` receives: low and high character of how many samples are missing, then the four characters of the mean's bits, low one first;
+ * six zeros where the sample was not taken. */
+uint8_t osturdam_sample(uint8_t unit[OSTURDAM_UNIT], const uint8_t *block, uint64_t length, uint8_t *records, uint64_t room,
+                        uint8_t calculation, uint8_t sampled[6]);
 
 /* ---- characters as words and values */
 
@@ -426,6 +450,32 @@ static inline void osturdam_keep_newest(struct osturdam_config *c, uint8_t file)
         c->oldest[file] = 0;
 }
 
+/* Over how many samples the mean of a place is; 0 of a place that is not used, and from OSTURDAM_MEANS on. */
+static inline uint16_t osturdam_window_of(const struct osturdam_config *c, uint8_t place)
+{
+    return place < OSTURDAM_MEANS ? osturdam_word_at(c->windows + 2 * place) : (uint16_t)0;
+}
+
+/* The place of a calculation that is a mean, or OSTURDAM_MEANS. */
+static inline uint8_t osturdam_mean_place(const struct osturdam_config *c, uint8_t calculation)
+{
+    uint8_t place = 0;
+    while (place < OSTURDAM_MEANS && (osturdam_window_of(c, place) == 0 || c->means[place] != calculation))
+        place++;
+    return place;
+}
+
+/* A place, 0 to OSTURDAM_MEANS - 1, is for the mean of the last so many samples of an analog. Both numbers are equipped besides, and no other
+ * place has the calculation; the same analog may be sampled for several. */
+static inline void osturdam_equip_mean(struct osturdam_config *c, uint8_t place, uint8_t calculation, uint8_t analog, uint16_t samples)
+{
+    if (place < OSTURDAM_MEANS) {
+        c->means[place] = calculation;
+        c->sampled[place] = analog;
+        osturdam_word_to(c->windows + 2 * place, samples);
+    }
+}
+
 /* How long the records of a file are; 0 of a file that is not equipped. */
 static inline uint16_t osturdam_record_length(const struct osturdam_config *c, uint8_t file)
 {
@@ -441,8 +491,17 @@ static inline uint64_t osturdam_record_place(const struct osturdam_config *c, ui
     return OSTURDAM_ROOM * below + (uint64_t)record * osturdam_record_length(c, file);
 }
 
-/* How many characters of records a unit of it asks for: OSTURDAM_RECORDS at most, if it is valid. A program that sets them aside before it
- * runs adds OSTURDAM_RECORDS_OF of each file. */
+/* Where the samples of a place start behind the records: the oldest stands first, and as many as are in (osturdam_taken_of) are samples. */
+static inline uint64_t osturdam_samples_place(const struct osturdam_config *c, uint8_t place)
+{
+    uint64_t below = 0;
+    for (uint8_t p = 0; p < place; p++)
+        below += osturdam_window_of(c, p);
+    return osturdam_record_place(c, OSTURDAM_FILES, 0) + 2 * below;
+}
+
+/* How many characters of records and samples a unit of it asks for: OSTURDAM_LENT at most, if it is valid. A program that sets them aside
+ * before it runs adds OSTURDAM_RECORDS_OF of each file and OSTURDAM_SAMPLES_OF of each mean. */
 static inline uint64_t osturdam_room_of(const struct osturdam_config *c)
 {
     return osturdam_room((const uint8_t *)c);
@@ -450,6 +509,9 @@ static inline uint64_t osturdam_room_of(const struct osturdam_config *c)
 
 /* What a file asks for whose records have so many values. */
 #define OSTURDAM_RECORDS_OF(values) (OSTURDAM_ROOM * (OSTURDAM_RECORD_HEAD + 2 * (values)))
+
+/* What a mean asks for that is over so many samples. */
+#define OSTURDAM_SAMPLES_OF(samples) (2 * (samples))
 
 /* Whether a unit can have it: whether osturdam_begin makes a unit of it that takes events. Of all calls it alone needs much stack, as
  * much as a unit's memory has characters; where there is not so much, the first event tells as well. */
@@ -498,6 +560,12 @@ static inline void osturdam_put_count(struct osturdam_unit *u, uint8_t file, uin
 static inline uint16_t osturdam_dropped_of(const struct osturdam_unit *u, uint8_t file)
 {
     return osturdam_dropped((const uint8_t *)u, file);
+}
+
+/* How many samples of the mean of a place are in. */
+static inline uint16_t osturdam_taken_of(const struct osturdam_unit *u, uint8_t place)
+{
+    return place < OSTURDAM_MEANS ? osturdam_word_at(u->taken + 2 * place) : (uint16_t)0;
 }
 
 /* How long the block of an ordinal of the fixed area is; 0 for any other. */
@@ -550,8 +618,8 @@ static inline struct osturdam_lent osturdam_lend(struct osturdam_together *t, co
 /* ---- events: each judges configuration and unit, and changes nothing where OSTURDAM_NOT_CONFIGURED is its answer */
 
 /* The unit begins, whatever its memory held: the configuration, which must lie elsewhere, is laid into it, the clock is on day 1,
- * 00:00:00.000, status bit 7 is set, all else and the parameter block are 0, and no record is counted. The characters of records are left
- * as they are. This tells nothing: a configuration that no unit has is told by osturdam_is_valid, and by the first event. */
+ * 00:00:00.000, status bit 7 is set, all else and the parameter block are 0, and no record or sample is counted. The characters of records and
+ * samples are left as they are. This tells nothing: a configuration that no unit has is told by osturdam_is_valid, and by the first event. */
 static inline void osturdam_begin(const struct osturdam_lent *l, const struct osturdam_config *c)
 {
     osturdam_fresh((uint8_t *)l->unit, l->block, l->length, (const uint8_t *)c);
@@ -600,7 +668,7 @@ static inline enum osturdam_outcome osturdam_take_pulses(const struct osturdam_l
     return (enum osturdam_outcome)outcome;
 }
 
-/* A calculation's value is now this pattern of 32 bits. */
+/* A calculation's value is now this pattern of 32 bits; that of a mean comes from its samples alone. */
 static inline enum osturdam_outcome osturdam_take_value(const struct osturdam_lent *l, uint8_t calculation, uint32_t value)
 {
     uint8_t outcome = osturdam_set_value((uint8_t *)l->unit, l->block, l->length, l->records, l->room, calculation, value);
@@ -613,6 +681,19 @@ static inline enum osturdam_stored osturdam_take_record(const struct osturdam_le
 {
     uint8_t stored = osturdam_store_record((uint8_t *)l->unit, l->block, l->length, l->records, l->room, file, event, values, many);
     return (enum osturdam_stored)stored;
+}
+
+/* The analog of a mean is sampled: its word as it is now, signed, is in, and where there are more than the mean is over the oldest is out.
+ * Once as many are in, each sample makes the mean of them the value of its calculation, which a master reads; before that the calculation is
+ * one that is not equipped, for function 03. A calculation that is no mean is OSTURDAM_NOT_VALID. */
+static inline enum osturdam_outcome osturdam_take_sample(const struct osturdam_lent *l, uint8_t calculation, struct osturdam_sampled *s)
+{
+    uint8_t told[6] = {0, 0, 0, 0, 0, 0};
+    uint8_t outcome = osturdam_sample((uint8_t *)l->unit, l->block, l->length, l->records, l->room, calculation, told);
+    s->outcome = (enum osturdam_outcome)outcome;
+    s->missing = osturdam_word_at(told);
+    s->mean = osturdam_value_at(told + 2);
+    return s->outcome;
 }
 
 #ifdef __cplusplus

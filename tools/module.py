@@ -8,7 +8,9 @@ CALLED = r'llvm\.(memmove\.p0\.p0\.i64|memset\.p0\.i64|memcpy\.p0\.p0\.i64|ctpop
 GIVEN = r'(ptr|i1|i8|i16|i32|i64) noundef %\w+'
 ANSWERED = r'void|noundef (zeroext i1|i8|i16|i32|i64)'
 # what memory is set aside for: characters, numbers, or one pointer, which alone is shorter on some machines
-KEPT = r'i8|i16|i32|i64|ptr|\[\d+ x i8\]'
+KEPT = r'i8|i16|i32|i64|float|ptr|\[\d+ x i8\]'
+# floats of another length, or leave to reckon with floats otherwise than IEEE 754 says
+OTHER_FLOATS = r'double|half|bfloat|fp128|x86_fp80|fast|nnan|ninf|nsz|arcp|contract|afn|reassoc|fpmath'
 OF_X86 = ' "probe-stack"="inline-asm" "target-cpu"="x86-64"'
 
 
@@ -31,7 +33,7 @@ def judge_border(text):
 
 def judge_memory(text):
     """No number is a pointer's; nothing of a pointer's length is moved as characters, since that is 8 on x86-64 alone."""
-    for word in ('ptrtoint', 'inttoptr', 'addrspace', 'asm ', 'byval', 'sret', 'x86_fp80', 'thread_local'):
+    for word in ('ptrtoint', 'inttoptr', 'addrspace', 'asm ', 'byval', 'sret', 'thread_local'):
         if re.search(rf'\b{word}', text):
             refuse(f'{word.strip()} is in it')
     for kind in set(re.findall(r'= alloca ([^,\n]+)', text)):
@@ -44,6 +46,13 @@ def judge_memory(text):
                 refuse('a pointer is moved as characters')
 
 
+def judge_floats(text):
+    """Single precision alone, and each step as it is written: then every machine, or its compiler's library, gives the same bits."""
+    found = re.search(rf'^  .*\b({OTHER_FLOATS})\b', text, re.M)
+    if found:
+        refuse(f'{found[1]} is in it')
+
+
 def judge_calls(text):
     for name in re.findall(r'^declare .*?@(\S+?)\(', text, re.M):
         if not re.fullmatch(CALLED, name):
@@ -53,6 +62,7 @@ def judge_calls(text):
 def judge(text):
     judge_border(text)
     judge_memory(text)
+    judge_floats(text)
     judge_calls(text)
     told = re.findall(r'^attributes #\d+ = \{(.*)\}$', text, re.M)
     if not any(OF_X86 in a for a in told) or any('"' in a.replace(OF_X86, '') for a in told):

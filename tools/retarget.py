@@ -21,14 +21,15 @@ sys.dont_write_bytecode = True
 from constants import laid_as_data  # noqa: E402
 from module import Refused, judge  # noqa: E402
 
-# the machines by the first part of their triples, each with what its library is compiled for if nothing else is said
+# the machines by the first part of their triples, each with what its library is compiled for if nothing else is said. On Arm floats are the
+# compiler's own routines then: not every core has a unit for them, and after a reset it is off
 MACHINES = {
     'thumbv6m': ['-mcpu=cortex-m0plus'],
-    'thumbv7em': ['-mcpu=cortex-m4'],
+    'thumbv7em': ['-mcpu=cortex-m4', '-mfloat-abi=soft'],
     'thumbv8m.base': ['-mcpu=cortex-m23'],
-    'thumbv8m.main': ['-mcpu=cortex-m33'],
-    'armv7': [],
-    'armv7a': [],
+    'thumbv8m.main': ['-mcpu=cortex-m33', '-mfloat-abi=soft'],
+    'armv7': ['-mfloat-abi=soft'],
+    'armv7a': ['-mfloat-abi=soft'],
     'aarch64': [],
     'riscv32': ['-march=rv32imac', '-mabi=ilp32'],
     'riscv64': ['-march=rv64gc', '-mabi=lp64d'],

@@ -12,6 +12,8 @@ struct plain_config {
     size_t length; // of the parameter block
     uint8_t inputs[OSTURDAM_INPUTS], outputs[OSTURDAM_INPUTS], calculations[OSTURDAM_INPUTS];
     uint8_t files[OSTURDAM_FILES], values[OSTURDAM_FILES], oldest[OSTURDAM_FILES];
+    uint8_t means[OSTURDAM_MEANS], sampled[OSTURDAM_MEANS];
+    uint16_t windows[OSTURDAM_MEANS]; // 0: the place is not used
 };
 
 // As enum osturdam_kept has them.
@@ -34,12 +36,21 @@ struct plain_unit {
     uint8_t records[OSTURDAM_RECORDS];
     uint8_t counts[OSTURDAM_FILES];
     uint16_t dropped[OSTURDAM_FILES];
+    uint16_t taken[OSTURDAM_MEANS];
+    int16_t samples[OSTURDAM_MEANS * OSTURDAM_SAMPLES];
 };
 
 // How a stretch ended.
 struct plain_turned {
     size_t sent;
     uint8_t outcome, action, output;
+};
+
+// What a sample came to: a mean, or how many are missing.
+struct plain_sampled {
+    uint8_t outcome;
+    uint16_t missing;
+    float mean;
 };
 
 void plain_fresh(struct plain_unit *u);
@@ -52,5 +63,6 @@ uint8_t plain_pulses(const struct plain_config *c, struct plain_unit *u, uint8_t
 uint8_t plain_set_value(const struct plain_config *c, struct plain_unit *u, uint8_t calculation, uint32_t value);
 uint8_t plain_store_record(const struct plain_config *c, struct plain_unit *u, uint8_t file, uint8_t event, const uint16_t *given,
                            size_t many);
+struct plain_sampled plain_take_sample(const struct plain_config *c, struct plain_unit *u, uint8_t calculation);
 
 #endif

@@ -63,6 +63,15 @@ static inline bool two_bit(uint8_t input)
     return input / OSTURDAM_GROUPS == 0;
 }
 
+// The place of a mean, or OSTURDAM_MEANS.
+static inline unsigned mean_place(const Config *c, uint8_t calculation)
+{
+    unsigned place = 0;
+    while (place < OSTURDAM_MEANS && (!c->windows[place] || c->means[place] != calculation))
+        place++;
+    return place;
+}
+
 static inline unsigned record_size(const Config *c, unsigned file)
 {
     return OSTURDAM_RECORD_HEAD + 2 * c->values[file];

@@ -107,6 +107,28 @@ static void swapped(void)
     expect("a record", store_record(&u, 0, 7, given, OSTURDAM_VALUES, 1), OSTURDAM_STORED);
 }
 
+// Means that are ready: a sample takes the place of the oldest.
+static void sample_of(int calculation)
+{
+    equip_means();
+    expect("a sample", take_sample(&u, calculation, 1), OSTURDAM_DONE);
+}
+
+static void sample_1(void)
+{
+    sample_of(0);
+}
+
+static void sample_16(void)
+{
+    sample_of(1);
+}
+
+static void sample_256(void)
+{
+    sample_of(2);
+}
+
 // The acknowledging request names an empty file, so that nothing but the release is long.
 static void release(void)
 {
@@ -146,10 +168,11 @@ int main(int argc, char **argv)
     static const struct {
         const char *name;
         void (*run)(void);
-    } rows[] = {{"points", points},         {"table", table},     {"last", last_table},      {"first", first_table},
-                {"values", values},         {"dump", dump},       {"marked", marked_points}, {"marked-table", marked_table},
-                {"marked-one", marked_one}, {"store", one_more},  {"swap", swapped},         {"release", release},
-                {"follow", follow},         {"refused", refused}, {"set", set_time},         {"pair", both}};
+    } rows[] = {{"points", points},         {"table", table},         {"last", last_table},      {"first", first_table},
+                {"values", values},         {"dump", dump},           {"marked", marked_points}, {"marked-table", marked_table},
+                {"marked-one", marked_one}, {"store", one_more},      {"swap", swapped},         {"release", release},
+                {"follow", follow},         {"refused", refused},     {"set", set_time},         {"pair", both},
+                {"sample-1", sample_1},     {"sample-16", sample_16}, {"sample-256", sample_256}};
     equip(POINTS);
     for (size_t i = 0; argc == 2 && i < sizeof rows / sizeof rows[0]; i++)
         if (strcmp(argv[1], rows[i].name) == 0) {
@@ -157,6 +180,6 @@ int main(int argc, char **argv)
             return 0;
         }
     fprintf(stderr, "usage: rows points | marked | marked-table | marked-one | table | last | first | values | dump | store | swap | "
-                    "release | follow | refused | set | pair\n");
+                    "release | follow | refused | set | pair | sample-1 | sample-16 | sample-256\n");
     return 2;
 }

@@ -1,4 +1,5 @@
-// How many characters of records three units ask for: with no files, with those of the day of traffic, and with those of the rows.
+// How many characters of records and samples four units ask for: with no files, with those of the day of traffic, with those of the rows, and
+// with as many means as a unit may have besides.
 #include "osturdam.h"
 
 #include <stdio.h>
@@ -12,6 +13,9 @@ int main(void)
     printf("%d\n", (int)osturdam_room_of(&c));
     for (int f = 0; f < OSTURDAM_FILES; f++)
         osturdam_equip_file(&c, f, OSTURDAM_VALUES);
+    printf("%d\n", (int)osturdam_room_of(&c));
+    for (int place = 0; place < OSTURDAM_MEANS; place++)
+        osturdam_equip_mean(&c, place, place, 0x80, OSTURDAM_SAMPLES);
     printf("%d\n", (int)osturdam_room_of(&c));
     return 0;
 }

@@ -20,6 +20,12 @@ COUNTED uint8_t library_store(struct units *u, uint8_t file, uint8_t event, cons
     return (uint8_t)osturdam_take_record(&u->lent, file, event, given, many);
 }
 
+COUNTED uint8_t library_sample(struct units *u, uint8_t calculation)
+{
+    struct osturdam_sampled sampled;
+    return (uint8_t)osturdam_take_sample(&u->lent, calculation, &sampled);
+}
+
 void fresh(struct units *u)
 {
     u->lent = osturdam_lend(&u->library, &u->config);
@@ -71,6 +77,12 @@ uint8_t pulses(struct units *u, uint8_t input, uint16_t count)
 uint8_t set_value(struct units *u, uint8_t calculation, uint32_t value)
 {
     return (uint8_t)osturdam_take_value(&u->lent, calculation, value);
+}
+
+uint8_t take_sample(struct units *u, uint8_t calculation, int counted)
+{
+    struct osturdam_sampled sampled;
+    return counted ? library_sample(u, calculation) : (uint8_t)osturdam_take_sample(&u->lent, calculation, &sampled);
 }
 
 // ---- what a C library has

@@ -3,7 +3,7 @@
 
 #include <stdio.h>
 
-/* A unit is some 42 KB, so it is not for a stack. */
+/* A unit is some 50 KB, so it is not for a stack. */
 static struct osturdam_config config;
 static struct osturdam_together all;
 

@@ -6,6 +6,7 @@
 #include "memory.h"
 
 enum { NUMBER = 1234, STATUS = 0x30, TRIPS = 0x40, LOAD = 0x80, FILE = 0, TRIP_EVENT = 7, TRIP_MS = 15 };
+enum { POLES = 0x00, BREAKER = 8 * POLES + 5, DEMAND = 0x00 }; /* a group, a contact of it, and a calculation */
 
 static struct osturdam_config config;
 static struct kept kept;
@@ -15,11 +16,14 @@ static uint32_t until_trip = TRIP_MS;
 static void configure(void)
 {
     osturdam_put_number(&config, NUMBER);
+    osturdam_equip_input(&config, POLES);
     osturdam_equip_input(&config, STATUS);
     osturdam_equip_input(&config, TRIPS);
     osturdam_equip_input(&config, LOAD);
     osturdam_equip_output(&config, 0);
     osturdam_equip_output(&config, 1);
+    osturdam_equip_calculation(&config, DEMAND);
+    osturdam_equip_mean(&config, 0, DEMAND, LOAD, DEMAND_SAMPLES);
     osturdam_equip_file(&config, FILE, TRIP_VALUES); /* it keeps the oldest: no trip goes that a master has not acknowledged */
 }
 
@@ -57,15 +61,19 @@ static void serve(struct stretch *s)
     board_send(reply, turned.sent);
 }
 
-/* Stands for what the board measures: a trip, counted and recorded. One for which the file has no room comes again later. */
+/* Stands for what the board measures: a trip, counted and recorded, with the breaker's contact and a sample of the load. One for which the file
+ * has no room comes again later. */
 static void trip(void)
 {
+    struct osturdam_sampled sampled;
     uint16_t next = (uint16_t)(osturdam_word_at(kept.trips) + 1);
     if (osturdam_take_record(&lent, FILE, TRIP_EVENT, &next, 1) != OSTURDAM_STORED)
         return;
     osturdam_word_to(kept.trips, next);
     osturdam_take_pulses(&lent, TRIPS, 1);
+    osturdam_take_contact(&lent, BREAKER, next % 2);
     osturdam_take_word(&lent, LOAD, next);
+    osturdam_take_sample(&lent, DEMAND, &sampled); /* masters read the mean; nothing here waits for it */
     keep_write(&kept);
 }
 
@@ -85,7 +93,7 @@ int main(void)
         return 1; /* a library of another layout was linked */
     configure();
     if (osturdam_room_of(&config) > sizeof kept.records)
-        return 1; /* another file was equipped, and no room set aside */
+        return 1; /* another file or mean was equipped, and no room set aside */
     board_start();
     wake();
     for (;;) {

@@ -1,5 +1,5 @@
 /* Runs a fixed exchange between masters and a unit of the library and prints it, one message a line, for checks/capture:
- *   I <TAB> the equipped input numbers      C <TAB> the equipped calculation numbers      F <TAB> a file <TAB> its values
+ *   I <TAB> the equipped input numbers      C <TAB> the calculation numbers that are equipped from now on      F <TAB> a file <TAB> its values
  *   W <TAB> what the next messages show     T <TAB> milliseconds that passed
  *   M <TAB> a master's stretch <TAB> its outcome      U <TAB> the unit's reply */
 #include <stdio.h>
@@ -104,6 +104,8 @@ static void configure(void)
     equip(osturdam_equip_input, inputs, sizeof inputs);
     equip(osturdam_equip_output, outputs, sizeof outputs);
     equip(osturdam_equip_calculation, calculations, sizeof calculations);
+    osturdam_equip_calculation(&config, DEMAND);
+    osturdam_equip_mean(&config, 0, DEMAND, LOAD, 2);
     line('I', inputs, sizeof inputs);
     line('C', calculations, sizeof calculations);
     for (size_t i = 0; i < sizeof files; i++) {
@@ -140,6 +142,22 @@ static void measure(void)
         must(osturdam_take_value(&lent, calculations[i], results[i]), "a value");
 }
 
+/* The load as it was measured, and another: then the mean is ready, and among the calculations. */
+static void sample(void)
+{
+    uint8_t ready[sizeof calculations + 1];
+    struct osturdam_sampled sampled;
+    size_t lower = 0;
+    while (lower < sizeof calculations && calculations[lower] < DEMAND)
+        lower++;
+    for (size_t i = 0; i < sizeof ready; i++)
+        ready[i] = i < lower ? calculations[i] : i == lower ? DEMAND : calculations[i - 1];
+    must(osturdam_take_sample(&lent, DEMAND, &sampled), "a sample");
+    must(osturdam_take_word(&lent, LOAD, words[sizeof inputs - 1]), "a word");
+    must(osturdam_take_sample(&lent, DEMAND, &sampled), "a sample");
+    line('C', ready, sizeof ready);
+}
+
 /* Records of every file but the last, which stays empty; time passes from one to the next. */
 static void record(void)
 {
@@ -160,6 +178,7 @@ int main(void)
     measure();
     run(opening, sizeof opening / sizeof opening[0]);
     record();
+    sample();
     run(rest, sizeof rest / sizeof rest[0]);
     return 0;
 }

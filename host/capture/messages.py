@@ -25,7 +25,7 @@ class Message:
 
     def __init__(self, number, sender, chars, outcome, request):
         self.number, self.sender, self.chars, self.outcome, self.request = number, sender, chars, outcome, request
-        self.at, self.what = 0, ''
+        self.at, self.what, self.equipped = 0, '', b''
         self.address, self.function = word(chars, 0), chars[2]
         head = 6 if sender == 'M' else 7
         self.command = chars[3] if sender == 'M' else request.command
@@ -46,15 +46,16 @@ def word(chars, at):
 
 
 class Exchange:
-    """The lines that host/capture/exchange.c prints, read: messages, equipped inputs and calculations, values of each file."""
+    """The lines that host/capture/exchange.c prints, read: messages, equipped inputs, values of each file; and of each
+    message the calculations that were equipped then."""
 
     def __init__(self, lines):
-        self.messages, self.values, at, what = [], {}, 0, ''
+        self.messages, self.values, at, what, equipped = [], {}, 0, '', b''
         for kind, first, *rest in (line.split('\t') for line in lines):
             if kind == 'I':
                 self.inputs = bytes.fromhex(first)
             elif kind == 'C':
-                self.calculations = bytes.fromhex(first)
+                equipped = bytes.fromhex(first)
             elif kind == 'F':
                 self.values[int(first)] = int(rest[0])
             elif kind == 'W':
@@ -64,7 +65,7 @@ class Exchange:
             else:
                 at += GAP
                 self.add(kind, bytes.fromhex(first), rest)
-                self.messages[-1].at, self.messages[-1].what = at, what
+                self.messages[-1].at, self.messages[-1].what, self.messages[-1].equipped = at, what, equipped
 
     def add(self, sender, chars, rest):
         request = self.messages[-1] if sender == 'U' else None
@@ -120,7 +121,7 @@ def data_items(m, exchange):
     if answered and m.asks(0x00):
         return list(points(m, exchange.inputs))
     if answered and m.asks(0x03):
-        return calculations(m, exchange.calculations)
+        return calculations(m, m.equipped)
     if answered and m.asks(0x04):
         return list(records(m, exchange.values))
     return [Item('data', m.data.hex())] if m.data else []

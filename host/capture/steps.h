@@ -22,6 +22,7 @@ static const uint16_t words[] = {0xA55A, 0x0102, 0x8001, 0x1234, 1, 65535, 300, 
 static const uint8_t outputs[] = {0x00, 0x07, 0xFF};
 static const uint8_t calculations[] = {0x00, 0x04, 0x15, 0x40, 0x7F};
 static const uint32_t results[] = {0x3F800000, 0xC2F6E979, 0x00000001, 0x7FC00001, 0x7F7FFFFF};
+enum { DEMAND = 0x20, LOAD = 0x80 }; /* a calculation that is the mean of two samples of an analog */
 static const uint8_t files[] = {0, 3, 16, 31};
 static const uint8_t values[] = {1, 3, 16, 2};
 static const uint8_t held[] = {3, 2, 15, 0};
@@ -45,6 +46,7 @@ static const struct step opening[] = {
     {"03 calculations, with status bit 7", ASK(1, 0x03, 0x80)},
     {0, SEND(1, 0x03, 0x00, 2, 0x04, 0x15)},
     {0, SEND(1, 0x03, 0x00, 4, 0x7F, 0x00, 0x40, 0x7F)},
+    {"03 a mean that is not ready", SEND(1, 0x03, 0x00, 3, DEMAND, 0x04, DEMAND)},
     {"20h/30h and 20h/31h write scan tables", SEND(1, 0x20, 0x30, 3, 0x00, 0x00, 0x03)},
     {0, SEND(1, 0x20, 0x31, 14, 0x00, 0x02, 0x80, 0x30, 0x00, 0x03, 0x40, 0x00, 0xFF, 0x12, 0x01, 0x5F, 0x00, 0x00)},
 };
@@ -56,6 +58,7 @@ static const struct step rest[] = {
     {0, ASK(2, 0x0A, 0x43)},
     {"03 calculations, with status 00", ASK(1, 0x03, 0x80)},
     {0, SEND(1, 0x03, 0x00, 1, 0x04)},
+    {"03 a mean that is ready", SEND(1, 0x03, 0x00, 1, DEMAND)},
     {"04 single records", ASK(1, 0x04, 0x40)},
     {0, ASK(1, 0x04, 0x00)},
     {0, ASK(1, 0x04, 0x40)},

@@ -5,9 +5,9 @@
 
 #include <stddef.h>
 
-enum { UNIT = OSTURDAM_UNIT, BLOCK = OSTURDAM_BLOCK + 88, RECORDS = OSTURDAM_RECORDS + 64, BUFFER = OSTURDAM_REPLY + 80 };
+enum { UNIT = OSTURDAM_UNIT, BLOCK = OSTURDAM_BLOCK + 88, RECORDS = OSTURDAM_LENT + 64, BUFFER = OSTURDAM_REPLY + 80 };
 enum { LONGEST = 100000, MANY = 300, DEPTH = 1024, PAINT = 0x5A5A5A5A };
-enum line { END, BEGIN, POKE, LENT, VALID, FRESH, STRETCH, ELAPSED, WORD, PULSES, VALUE, STORE, CONTACT };
+enum line { END, BEGIN, POKE, LENT, VALID, FRESH, STRETCH, ELAPSED, WORD, PULSES, VALUE, STORE, CONTACT, SAMPLE };
 
 /* A part of what a unit is lent, and what must stand there. Both begin as far behind a word, another one in each run. */
 struct region {
@@ -24,6 +24,7 @@ static struct osturdam_config config;
 static struct osturdam_lent lent;
 static struct osturdam_heard heard;
 static struct osturdam_turned turned;
+static struct osturdam_sampled sampled;
 static uint32_t calls, runs, shift, deepest, deepest_valid;
 
 /* ---- telling */
@@ -191,6 +192,7 @@ static void given(enum line line)
     case PULSES: number = character(), given_word = word(); break;
     case CONTACT: number = character(), given_word = character(); break;
     case VALUE: number = character(), given_value = value(); break;
+    case SAMPLE: number = character(); break;
     case STORE:
         number = character(), event_number = character(), given_word = word();
         for (uint16_t i = 0; i < given_word; i++)
@@ -209,6 +211,7 @@ static __attribute__((noinline)) int called(enum line line)
     case PULSES: return (int)osturdam_take_pulses(&lent, number, given_word);
     case CONTACT: return (int)osturdam_take_contact(&lent, number, (uint8_t)given_word);
     case VALUE: return (int)osturdam_take_value(&lent, number, given_value);
+    case SAMPLE: return (int)osturdam_take_sample(&lent, number, &sampled);
     case STORE: return (int)osturdam_take_record(&lent, number, event_number, given_word > 0 ? values : NULL, given_word);
     case VALID: return osturdam_is_valid(&config);
     default: osturdam_begin(&lent, &config); return 0;
@@ -254,6 +257,18 @@ static int stretched(void)
     return 0;
 }
 
+/* What a sample comes to. */
+static int mean_told(void)
+{
+    uint16_t missing = word();
+    uint32_t mean = value();
+    if (sampled.missing != missing)
+        return failed("another number of samples missing: ", sampled.missing);
+    if (sampled.mean != mean)
+        return failed("another mean: ", sampled.mean);
+    return 0;
+}
+
 static int call(enum line line)
 {
     calls++;
@@ -263,7 +278,7 @@ static int call(enum line line)
         return failed("another answer: ", (uint32_t)answer);
     if (line == VALID && osturdam_room_of(&config) != value())
         return failed("another room: ", (uint32_t)osturdam_room_of(&config));
-    if (line == STRETCH && stretched() != 0)
+    if ((line == STRETCH && stretched() != 0) || (line == SAMPLE && mean_told() != 0))
         return 1;
     if (line != VALID && changes(0) != 0)
         return 1;
@@ -274,7 +289,7 @@ static int call(enum line line)
 
 static int opened(void)
 {
-    static const char mark[] = "osturdam recording 4\n";
+    static const char mark[] = "osturdam recording 5\n";
     for (const char *p = mark; *p != 0; p++)
         if (character() != (uint8_t)*p)
             return failed("no recording of this kind; it differs at ", (uint32_t)(p - mark));
@@ -312,7 +327,7 @@ int replay(void)
         case BEGIN: begin(); break;
         case POKE: wrong = changes(1); break;
         case LENT: lend(); break;
-        default: wrong = line > CONTACT ? failed("the recording is not one of this program; it has line ", line) : call(line); break;
+        default: wrong = line > SAMPLE ? failed("the recording is not one of this program; it has line ", line) : call(line); break;
         }
     }
     return wrong;

@@ -9,7 +9,8 @@
 struct reading {
     unsigned line;
     struct osturdam_config *config;
-    bool unit, block; /* already given */
+    bool unit, block;                      /* already given */
+    unsigned means, lines[OSTURDAM_MEANS]; /* how many means are given, and where */
     struct config_notes *faults, *notices;
 };
 
@@ -145,12 +146,52 @@ static void take_file(struct reading *r, char **words, size_t many)
         osturdam_keep_newest(r->config, (uint8_t)file);
 }
 
+/* A power of two to the most has one bit. */
+static bool window_fits(uint32_t samples)
+{
+    return samples > 0 && (samples & (samples - 1)) == 0;
+}
+
+static void take_mean(struct reading *r, char **words, size_t many)
+{
+    uint32_t calculation, analog, samples;
+    if (many != 4 || !number_of(words[1], CONFIG_NUMBER_MOST, &calculation) || !number_of(words[2], CONFIG_NUMBER_MOST, &analog) ||
+        !number_of(words[3], OSTURDAM_SAMPLES, &samples) || !window_fits(samples)) {
+        wrong(r, "mean takes a calculation, an analog, and over how many samples it is: 1, 2, 4, 8, 16, 32, 64, 128 or %d",
+              OSTURDAM_SAMPLES);
+        return;
+    }
+    if (osturdam_mean_place(r->config, (uint8_t)calculation) < OSTURDAM_MEANS)
+        wrong(r, "the mean %02Xh is given a second time", (unsigned)calculation);
+    if (r->means < OSTURDAM_MEANS) {
+        r->lines[r->means] = r->line;
+        osturdam_equip_mean(r->config, (uint8_t)r->means, (uint8_t)calculation, (uint8_t)analog, (uint16_t)samples);
+    }
+    if (r->means++ == OSTURDAM_MEANS)
+        wrong(r, "there are more than %d means", OSTURDAM_MEANS);
+}
+
+/* What a mean names may be equipped by a later line, so this is judged behind the last. */
+static void judge_means(struct reading *r)
+{
+    for (size_t place = 0; place < r->means && place < OSTURDAM_MEANS; place++) {
+        uint8_t calculation = r->config->means[place], analog = r->config->sampled[place];
+        r->line = r->lines[place];
+        if (!osturdam_has_calculation(r->config, calculation))
+            wrong(r, "the mean %02Xh is no equipped calculation", calculation);
+        if (analog < CONFIG_ANALOG_LEAST)
+            wrong(r, "the mean %02Xh: %02Xh is no analog", calculation, analog);
+        else if (!osturdam_has_input(r->config, analog))
+            wrong(r, "the mean %02Xh: the analog %02Xh is not equipped", calculation, analog);
+    }
+}
+
 static const struct {
     const char *word;
     void (*take)(struct reading *r, char **words, size_t many);
 } lines[] = {
     {"unit", take_unit}, {"inputs", take_inputs}, {"outputs", take_outputs}, {"calculations", take_calculations},
-    {"file", take_file}, {"block", take_block},
+    {"file", take_file}, {"block", take_block},   {"mean", take_mean},
 };
 
 static void take_words(struct reading *r, char **words, size_t many)
@@ -161,7 +202,7 @@ static void take_words(struct reading *r, char **words, size_t many)
             return;
         }
     }
-    wrong(r, "'%.40s' is no word that a line begins with (unit, inputs, outputs, calculations, file, block)", words[0]);
+    wrong(r, "'%.40s' is no word that a line begins with (unit, inputs, outputs, calculations, mean, file, block)", words[0]);
 }
 
 static void take_line(struct reading *r, const char *chars, size_t length)
@@ -197,6 +238,7 @@ bool config_read(const char *text, size_t length, struct osturdam_config *config
         take_line(&r, text, many);
         text += ends ? many + 1 : many;
     }
+    judge_means(&r);
     r.line = 0;
     if (!r.unit)
         wrong(&r, "there is no line with the unit's number");

@@ -13,6 +13,7 @@
 enum {
     CONFIG_UNIT_MOST = 0x7FE,
     CONFIG_NUMBER_MOST = OSTURDAM_INPUTS - 1,
+    CONFIG_ANALOG_LEAST = 0x80,
     CONFIG_LINE = 1024, /* characters of a line, its end among them */
     CONFIG_WHAT = 160
 };

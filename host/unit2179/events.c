@@ -9,32 +9,37 @@
 
 #include "text.h"
 
-static unsigned set_word(const struct event *e, const struct osturdam_lent *l)
+static unsigned set_word(struct event *e, const struct osturdam_lent *l)
 {
     return osturdam_take_word(l, (uint8_t)e->figures[0], (uint16_t)e->figures[1]);
 }
 
-static unsigned contact(const struct event *e, const struct osturdam_lent *l)
+static unsigned contact(struct event *e, const struct osturdam_lent *l)
 {
     return osturdam_take_contact(l, (uint8_t)e->figures[0], (uint8_t)e->figures[1]);
 }
 
-static unsigned pulses(const struct event *e, const struct osturdam_lent *l)
+static unsigned pulses(struct event *e, const struct osturdam_lent *l)
 {
     return osturdam_take_pulses(l, (uint8_t)e->figures[0], (uint16_t)e->figures[1]);
 }
 
-static unsigned set_value(const struct event *e, const struct osturdam_lent *l)
+static unsigned set_value(struct event *e, const struct osturdam_lent *l)
 {
     return osturdam_take_value(l, (uint8_t)e->figures[0], e->figures[1]);
 }
 
-static unsigned store_record(const struct event *e, const struct osturdam_lent *l)
+static unsigned store_record(struct event *e, const struct osturdam_lent *l)
 {
     uint16_t values[OSTURDAM_VALUES];
     for (size_t i = 2; i < e->many; i++)
         values[i - 2] = (uint16_t)e->figures[i];
     return osturdam_take_record(l, (uint8_t)e->figures[0], (uint8_t)e->figures[1], values, e->many - 2);
+}
+
+static unsigned sample(struct event *e, const struct osturdam_lent *l)
+{
+    return osturdam_take_sample(l, (uint8_t)e->figures[0], &e->sampled);
 }
 
 enum { INPUT_MOST = OSTURDAM_INPUTS - 1, CONTACT_MOST = 8 * OSTURDAM_GROUPS - 1, FILE_MOST = OSTURDAM_FILES - 1 };
@@ -43,12 +48,13 @@ static const struct {
     const char *word, *takes;
     size_t least, most; /* figures */
     uint32_t limits[3]; /* of the first, the second and each further figure */
-    unsigned (*apply)(const struct event *e, const struct osturdam_lent *l);
+    unsigned (*apply)(struct event *e, const struct osturdam_lent *l);
 } kinds[] = {
     {"word", "an input, 0 to FFh, and a word, 0 to FFFFh", 2, 2, {INPUT_MOST, 0xFFFF, 0}, set_word},
     {"contact", "a contact, 0 to 255, and its state, 0 or 1", 2, 2, {CONTACT_MOST, 0xFF, 0}, contact}, /* 8 is told of any other state */
     {"pulse", "an input, 0 to FFh, and a count, 0 to 65535", 2, 2, {INPUT_MOST, 0xFFFF, 0}, pulses},
     {"value", "a calculation, 0 to FFh, and a pattern of 32 bits", 2, 2, {INPUT_MOST, 0xFFFFFFFF, 0}, set_value},
+    {"sample", "a calculation that is a mean, 0 to FFh", 1, 1, {INPUT_MOST, 0, 0}, sample},
     {"record",
      "the number of a file, an event type, 0 to FFh, and values, 0 to FFFFh, as many as its records have",
      3,
@@ -113,7 +119,7 @@ static bool event_of(const struct place *at, char *line, struct event *event)
         complain(at, "%s takes %s", words[0], kinds[event->kind].takes);
         return false;
     }
-    complain(at, "'%s' is no event (word, contact, pulse, value, record)", words[0]);
+    complain(at, "'%s' is no event (word, contact, pulse, value, sample, record)", words[0]);
     return false;
 }
 
@@ -170,7 +176,7 @@ bool events_next(struct events *e, struct event *event)
     return false;
 }
 
-unsigned event_apply(const struct event *event, const struct osturdam_lent *lent)
+unsigned event_apply(struct event *event, const struct osturdam_lent *lent)
 {
     return kinds[event->kind].apply(event, lent);
 }
@@ -185,8 +191,15 @@ bool event_stores(const struct event *event)
     return kinds[event->kind].apply == store_record;
 }
 
+bool event_samples(const struct event *event)
+{
+    return kinds[event->kind].apply == sample;
+}
+
 const char *event_refusal(const struct event *event, unsigned outcome)
 {
+    if (event_samples(event))
+        return "that number is no mean";
     if (!event_stores(event))
         return "that number is not equipped, or is of another kind";
     switch (outcome) {
@@ -199,9 +212,13 @@ const char *event_refusal(const struct event *event, unsigned outcome)
 void events_help(void)
 {
     printf("Event lines, with numbers as in the configuration:\n"
-           "  word INPUT WORD               a status or analog word is now this, e.g. word 30h 8001h\n"
+           "  word INPUT WORD               a word of simple status or an analog is now this, e.g. word 30h 8001h\n"
+           "  contact NUMBER STATE          a contact, 0 to 255, is now open (0) or closed (1), e.g. contact 21 1: the sixth of the\n"
+           "                                group that is input 02h\n"
            "  pulse INPUT COUNT             so many pulses were counted, 0 to 65535, e.g. pulse 40h 12\n"
-           "  value CALCULATION PATTERN     a value of 32 bits, e.g. value 05h 3F800000h\n"
+           "  value CALCULATION PATTERN     a value of 32 bits, of a calculation that is no mean, e.g. value 05h\n"
+           "                                3F800000h\n"
+           "  sample CALCULATION            the analog of a mean is sampled, e.g. sample 07h\n"
            "  record FILE TYPE VALUE...     a record of 1 to %d values, each 0 to FFFFh, is stored under the unit's clock;\n"
            "                                the type is 0 to FFh, e.g. record 2 17 1234h 5678h\n",
            OSTURDAM_VALUES);

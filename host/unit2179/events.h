@@ -14,6 +14,7 @@ struct event {
     size_t kind;
     uint32_t figures[EVENT_FIGURES];
     size_t many;
+    struct osturdam_sampled sampled; /* what became of a sample */
 };
 
 /* Where lines come from. */
@@ -41,12 +42,15 @@ bool events_ready(const struct events *events);
 bool events_next(struct events *events, struct event *event);
 
 /* Has the unit hear of an event. Answers an outcome, or for a record how storing it ended. */
-unsigned event_apply(const struct event *event, const struct osturdam_lent *lent);
+unsigned event_apply(struct event *event, const struct osturdam_lent *lent);
 
 const char *event_kind(const struct event *event);
 
 /* Whether it stores a record; its first figure is the file's number. */
 bool event_stores(const struct event *event);
+
+/* Whether it takes a sample; its first figure is the calculation's number. */
+bool event_samples(const struct event *event);
 
 /* What a refusal means, in words. */
 const char *event_refusal(const struct event *event, unsigned outcome);

@@ -14,9 +14,11 @@
     PART(config.length, all.unit.config.length) PART(config.inputs, all.unit.config.inputs)                             \
     PART(config.outputs, all.unit.config.outputs) PART(config.calculations, all.unit.config.calculations)               \
     PART(config.files, all.unit.config.files) PART(config.values, all.unit.config.values)                               \
-    PART(config.oldest, all.unit.config.oldest) PART(numbers, all.unit.numbers) PART(words, all.unit.words)             \
-    PART(results, all.unit.results) PART(fixed, all.unit.fixed) PART(counts, all.unit.counts)                           \
-    PART(dropped, all.unit.dropped) PART(changed, all.unit.changed) PART(block, all.block) PART(records, all.records)   \
+    PART(config.oldest, all.unit.config.oldest) PART(config.means, all.unit.config.means)                               \
+    PART(config.sampled, all.unit.config.sampled) PART(config.windows, all.unit.config.windows)                         \
+    PART(numbers, all.unit.numbers) PART(words, all.unit.words) PART(results, all.unit.results)                         \
+    PART(fixed, all.unit.fixed) PART(counts, all.unit.counts) PART(dropped, all.unit.dropped)                           \
+    PART(changed, all.unit.changed) PART(taken, all.unit.taken) PART(block, all.block) PART(records, all.records)       \
     PART(journal.history, history) PART(journal.entry, entry)
 /* clang-format on */
 
@@ -30,10 +32,8 @@ static const struct region parts[] = {PARTS(ROW)};
 _Static_assert(sizeof parts / sizeof *parts == IMAGE_PARTS, "the image has room for each part");
 _Static_assert(0 PARTS(PLUS_LENGTH) == IMAGE_CHARS && sizeof(struct kept) == IMAGE_CHARS, "the parts are all that is kept");
 _Static_assert(1 PARTS(AND_NAMED), "a name and a 0 behind it fit");
-_Static_assert(offsetof(struct osturdam_config, oldest) + OSTURDAM_FILES == sizeof(struct osturdam_config),
-               "what makes a configuration another one stands before the marks");
 
-static struct kept whole; /* 40 KB, which a small stack may not have */
+static struct kept whole; /* 50 KB, which a small stack may not have */
 
 uint64_t number_at(const uint8_t *chars, size_t width)
 {
@@ -131,9 +131,11 @@ static const char *take(struct reading *r, const char *name, size_t many)
         return told("it has a part that no unit has, '%.*s'", text_in(name), name);
     if (r->taken[i])
         return told("it has the part '%s' twice", parts[i].name);
-    bool fewer = is_records(&parts[i]) && r->order->version > OLDER_SLOTS; /* how many there are to be is known with the configuration */
-    if ((fewer ? many > parts[i].many : many != parts[i].many) || many > (size_t)(r->end - r->at))
-        return told("its part '%s' has not %zu characters", parts[i].name, parts[i].many);
+    bool slots = r->order->version <= OLDER_SLOTS;
+    bool fewer = is_records(&parts[i]) && !slots; /* how many there are to be is known with the configuration */
+    size_t most = is_records(&parts[i]) && slots ? (size_t)OLDER_RECORDS : parts[i].many;
+    if ((fewer ? many > most : many != most) || many > (size_t)(r->end - r->at))
+        return told("its part '%s' has not %zu characters", parts[i].name, most);
     memcpy((uint8_t *)&whole + parts[i].at, r->at, many);
     r->taken[i] = true;
     r->order->parts[r->order->many++] = (struct region){parts[i].name, parts[i].at, many};
@@ -194,6 +196,14 @@ static const char *damage(const uint8_t *image, size_t many)
     return NULL;
 }
 
+/* Whether a configuration is another one: which files keep the oldest does not make it so. */
+static bool is_another(const struct osturdam_config *is, const struct osturdam_config *expected)
+{
+    struct osturdam_config marked = *is;
+    memcpy(marked.oldest, expected->oldest, sizeof marked.oldest);
+    return memcmp(&marked, expected, sizeof marked) != 0;
+}
+
 /* What is wrong with the unit that was read, where another was expected. */
 static const char *misfit(const struct image_order *order, const struct osturdam_unit *expected)
 {
@@ -201,7 +211,7 @@ static const char *misfit(const struct image_order *order, const struct osturdam
     size_t asked = (size_t)osturdam_room_of(&expected->config);
     if (osturdam_word_at(is->layout) != older_layout(order->version))
         return told("it is of a unit with the layout %u", osturdam_word_at(is->layout));
-    if (memcmp(&is->config, &expected->config, offsetof(struct osturdam_config, oldest)) != 0)
+    if (is_another(&is->config, &expected->config))
         return "it is of a unit with another configuration";
     for (const struct region *p = order->parts; p < order->parts + order->many; p++) {
         if (is_records(p) && order->version > OLDER_SLOTS && p->many != asked)

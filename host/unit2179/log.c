@@ -157,6 +157,22 @@ void log_event(const struct event *event, unsigned outcome)
     put(&t);
 }
 
+/* A mean of so many bits has at most 13 digits. */
+void log_sample(const struct osturdam_sampled *sampled)
+{
+    struct text t = {.many = 0};
+    float mean;
+    if (into < 0)
+        return;
+    memcpy(&mean, &sampled->mean, sizeof mean);
+    add(&t, "M\t%u\t", sampled->missing);
+    if (sampled->missing == 0)
+        add(&t, "%.13g", (double)mean);
+    else
+        add(&t, "-");
+    put(&t);
+}
+
 void log_drop(uint8_t file, uint16_t dropped)
 {
     struct text t = {.many = 0};

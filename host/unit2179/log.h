@@ -7,6 +7,7 @@
  *   L  why the reply of the R before it was not sent
  *   A  output, open or close
  *   E  kind of local event, its figures, outcome
+ *   M  samples still missing for the mean of the E before it, and the mean or a dash
  *   D  file that dropped a record for the one of the E before it, how many it has dropped (65535: or more)
  * and last, on each line, when it was written (ISO 8601, in UTC). The first two fields of its T and R lines are lines of the bench
  * program, but that a Set Time there has no such milliseconds. A log that cannot be written is told once, and never stops the unit. */
@@ -29,6 +30,7 @@ void log_stretch(const uint8_t *stretch, size_t heard, const struct osturdam_tur
 void log_sync(uint32_t lag);
 void log_unsent(const char *why);
 void log_event(const struct event *event, unsigned outcome);
+void log_sample(const struct osturdam_sampled *sampled);
 void log_drop(uint8_t file, uint16_t dropped);
 
 /* Tells an output action. false: nobody can be told on standard output, and errno says why. */

@@ -2,7 +2,7 @@
 
 #include <string.h>
 
-_Static_assert((int)OLDER_RECORDS == (int)OSTURDAM_RECORDS, "records of an older version are read into a unit's memory");
+_Static_assert((int)OLDER_RECORDS <= (int)OSTURDAM_LENT, "records of an older version are read into a unit's memory");
 
 static uint8_t packed[OSTURDAM_RECORDS]; /* 38 KB, which a small stack may not have */
 
@@ -25,7 +25,11 @@ static void repack(struct osturdam_together *all)
 
 uint16_t older_layout(unsigned version)
 {
-    return version <= OLDER_SLOTS ? 1 : version <= OLDER_UNMARKED ? 2 : version <= OLDER_UNTOLD ? 3 : OSTURDAM_LAYOUT;
+    return version <= OLDER_SLOTS       ? 1
+           : version <= OLDER_UNMARKED  ? 2
+           : version <= OLDER_UNTOLD    ? 3
+           : version <= OLDER_UNSAMPLED ? 4
+                                        : OSTURDAM_LAYOUT;
 }
 
 void older_bring(struct kept *kept, unsigned version)

@@ -182,9 +182,9 @@ static const char help[] =
     "  --events FIFO          read local events there (made if it is missing), or from standard input (-)\n"
     "  --log FILE             append each event and what came out, - for standard output; fields parted by tabs:\n"
     "                         T ms, R stretch outcome reply, S ms since the sync point of that Set Time, L why that\n"
-    "                         reply was not sent, A output action, E event figures outcome, D file and how many records\n"
-    "                         it has dropped, the latest for that event; the last field is when it was written. SIGHUP\n"
-    "                         opens it again\n"
+    "                         reply was not sent, A output action, E event figures outcome, M samples missing and mean\n"
+    "                         of that sample, D file and how many records it has dropped, the latest for that event;\n"
+    "                         the last field is when it was written. SIGHUP opens it again\n"
     "  --capture FILE         append what is heard and sent as a capture (pcapng) that Wireshark opens\n"
     "  --help                 print this\n"
     "  --version              print which interface, layout and state files it has\n"
@@ -209,13 +209,17 @@ static void config_help(void)
            "                         accumulators 40h-5Fh, analogs 80h-FFh\n"
            "  outputs LIST           equipped control outputs, 00 to %Xh\n"
            "  calculations LIST      equipped special calculations, 00 to %Xh\n"
+           "  mean CALCULATION ANALOG SAMPLES\n"
+           "                         an equipped calculation is the mean of the last samples of an equipped analog, which\n"
+           "                         sample events take: 1, 2, 4, 8, 16, 32, 64, 128 or %d. Up to %d of them\n"
            "  file NUMBER VALUES oldest|newest\n"
            "                         a history file, 0 to %d, whose records have 1 to %d values. When it is full, one that\n"
            "                         says oldest takes no record, one that says newest drops its oldest record for a new\n"
            "                         one, but none of the latest history reply. One that says neither keeps the oldest, and\n"
            "                         that is told\n"
            "  block LENGTH           characters of the parameter block, 0 to %d\n",
-           CONFIG_UNIT_MOST, CONFIG_NUMBER_MOST, OSTURDAM_CALCULATIONS - 1, OSTURDAM_FILES - 1, OSTURDAM_VALUES, OSTURDAM_BLOCK);
+           CONFIG_UNIT_MOST, CONFIG_NUMBER_MOST, OSTURDAM_CALCULATIONS - 1, OSTURDAM_SAMPLES, OSTURDAM_MEANS, OSTURDAM_FILES - 1,
+           OSTURDAM_VALUES, OSTURDAM_BLOCK);
 }
 
 void options_help(void)

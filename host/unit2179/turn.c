@@ -84,7 +84,7 @@ enum served turn_take(struct server *s, const struct event *event)
     memcpy(before, s->all->unit.numbers, sizeof before);
     s->event = *event;
     s->full = event_stores(event) && osturdam_count_of(&s->all->unit, (uint8_t)event->figures[0]) == OSTURDAM_ROOM;
-    s->outcome = event_apply(event, &s->lent);
+    s->outcome = event_apply(&s->event, &s->lent);
     return turn_begun(s, AN_EVENT_WAITS, before);
 }
 
@@ -139,6 +139,8 @@ static enum served end_stretch(struct server *s)
 static enum served end_event(struct server *s)
 {
     log_event(&s->event, s->outcome);
+    if (event_samples(&s->event) && s->outcome == OSTURDAM_DONE)
+        log_sample(&s->event.sampled);
     if (s->outcome != OSTURDAM_DONE)
         complain(&s->events->at, "%s", event_refusal(&s->event, s->outcome));
     else if (s->full)

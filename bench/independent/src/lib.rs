@@ -1,6 +1,6 @@
 //! The independent program's unit behind C functions, with the structs of bench/functions/plain.h.
 
-use independent::{Config, State};
+use independent::{Calculation, Config, Input, Mean, Sampled, State};
 use std::mem::size_of;
 use std::slice;
 
@@ -15,6 +15,9 @@ pub struct CConfig {
     files: [u8; 32],
     values: [u8; 32],
     oldest: [u8; 32],
+    means: [u8; 16],
+    sampled: [u8; 16],
+    windows: [u16; 16],
 }
 
 /// How a stretch ended, as C lays it out: `struct plain_turned`.
@@ -24,6 +27,14 @@ pub struct Turned {
     outcome: u8,
     action: u8,
     output: u8,
+}
+
+/// What a sample came to, as C lays it out: `struct plain_sampled`.
+#[repr(C)]
+pub struct CSampled {
+    outcome: u8,
+    missing: u16,
+    mean: f32,
 }
 
 /// A configuration and a unit that lie together.
@@ -43,6 +54,13 @@ fn config(c: &CConfig) -> Config {
     }
     config.oldest = c.oldest.map(|keeps| keeps != 0);
     config.parameter_length = c.length;
+    let used = (0..c.windows.len()).filter(|&place| c.windows[place] != 0);
+    let mean = |place: usize| Mean {
+        calculation: Calculation(c.means[place]),
+        analog: Input(c.sampled[place]),
+        n: c.windows[place],
+    };
+    config.means = used.map(mean).collect();
     config
 }
 
@@ -109,6 +127,22 @@ pub extern "C" fn rust_set_value(u: &mut Unit, calculation: u8, value: u32) -> u
     independent::set_value(&u.config, &mut u.state, &u.params, calculation, value)
 }
 
+#[no_mangle]
+pub extern "C" fn rust_take_sample(u: &mut Unit, calculation: u8) -> CSampled {
+    let sampled = independent::sample(&u.config, &mut u.state, &u.params, calculation);
+    let (outcome, missing, bits) = match sampled {
+        Ok(Sampled::Mean(bits)) => (0, 0, bits),
+        Ok(Sampled::Missing(missing)) => (0, missing, 0),
+        Err(refused) => (refused, 0, 0),
+    };
+    let mean = f32::from_bits(bits);
+    CSampled {
+        outcome,
+        missing,
+        mean,
+    }
+}
+
 /// # Safety
 /// The caller hands over `many` values at `given`.
 #[no_mangle]
@@ -130,6 +164,9 @@ pub extern "C" fn rust_copy(u: &Unit) -> *mut Unit {
     let mut state = u.state.clone();
     for (file, from) in state.files.iter_mut().zip(&u.state.files) {
         file.reserve_exact(from.capacity() - from.len());
+    }
+    for (samples, from) in state.samples.iter_mut().zip(&u.state.samples) {
+        samples.reserve_exact(from.capacity() - from.len());
     }
     Box::into_raw(Box::new(Unit {
         config: u.config.clone(),
@@ -154,6 +191,8 @@ pub extern "C" fn rust_bytes(u: &Unit, config: &mut usize) -> usize {
     };
     let files = u.state.files.capacity() * size_of::<Vec<Vec<u8>>>()
         + u.state.files.iter().map(records).sum::<usize>();
-    *config = size_of::<Config>();
-    size_of::<State>() + size_of::<Vec<u8>>() + u.params.capacity() + files
+    let samples = |taken: &Vec<i16>| size_of::<Vec<i16>>() + 2 * taken.capacity();
+    let means = u.state.samples.iter().map(samples).sum::<usize>();
+    *config = size_of::<Config>() + u.config.means.capacity() * size_of::<Mean>();
+    size_of::<State>() + size_of::<Vec<u8>>() + u.params.capacity() + files + means
 }

@@ -8,10 +8,10 @@ use Rattle.chars.specs.Word.{word, wordAt}
 use Rattle.model.specs.Bench.{benchConfig}
 use Rattle.layout.specs.Regions.{startIn, regionIn}
 use Rattle.layout.proofs.UnitLaws.{configFigure}
-use Rattle.layout.specs.Unit.{configFrom, configGiven, nameUnit, equipInput}
+use Rattle.layout.specs.Unit.{wordsIn, configFrom, configGiven, nameUnit, equipInput}
 
 computed : configGiven (equipInput (equipInput (nameUnit (replicate configFigure 0) 1234) 0x30) 0x40) ≡ benchConfig
-unfolding put word wordAt benchConfig startIn regionIn configFrom
+unfolding put word wordAt benchConfig startIn regionIn wordsIn configFrom
 computed = refl
 
 pub bench-given : {a b r : List ℕ} → a ≡ nameUnit (replicate configFigure 0) 1234 → b ≡ equipInput a 0x30 → r ≡ equipInput b 0x40 → configGiven r ≡ benchConfig

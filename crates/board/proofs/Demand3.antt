@@ -32,7 +32,7 @@ told-append (x ∷ xs) ys = ap (λ (k : List Numbered). numbered (x .result) ∷
 alike-told : (a b : Entry) → AlikeEntry a b → AlikeShown (numbered (a .result)) (numbered (b .result))
 unfolding numbered
 alike-told a b e =
-    record { answer = rw (e .answer) refl; action = rw (e .action) refl; output = rw (e .action) refl; reply = e .reply }
+    record { answer = rw (e .answer) refl; action = rw (e .action) refl; output = rw (e .action) refl; sampled = rw (e .answer) refl; reply = e .reply }
 
 alike-run : {xs ys : List Entry} → AlikeTrace xs ys → AlikeRun (told xs) (told ys)
 unfolding results

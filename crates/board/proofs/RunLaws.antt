@@ -10,26 +10,57 @@ use Rattle.model.specs.Config.{Config, validOf}
 use Rattle.model.specs.State.{State, freshOf}
 use Rattle.model.specs.Fits.{fits}
 use Rattle.model.specs.Formed.{AllGiven}
-use Rattle.model.specs.Event.{Event}
-use Rattle.model.specs.Step.{makeOf}
-use Rattle.model.specs.Run.{Result, short, turnedAway, shows, resultOf, nextOf, entryOf, afterFrom, traceFrom, after, trace}
+use Rattle.chars.specs.Word.{word, value}
+use Rattle.model.specs.Event.{setWord, setValue, pulses, store, contact, sample, Event, stretch, elapsed, local}
+use Rattle.model.specs.Step.{quiet, elapsedMade, localMade, wordMade, valueMade, contactMade, storeMade, localOf, makeOf}
+use Rattle.model.specs.Run.{Result, short, decided, turnedAway, shows, resultOf, nextOf, entryOf, afterFrom, traceFrom, after, trace}
+use Rattle.model.specs.declared.SpecialCalculation.{SpecialCalculation}
 use Rattle.model.specs.declared.Outcome.the-variants.{NotConfigured}
 use Rattle.model.specs.declared.Answer.{Answer}
-use Rattle.model.specs.declared.Answer.the-variants.{Ended, Storing}
+use Rattle.model.specs.declared.Answer.the-variants.{Ended, Storing, Sampling}
 use Rattle.model.specs.declared.Stored.the-variants.{Kept as KeptRecord, Swapped, Full, NotEquipped, WrongValues}
-use Rattle.model.proofs.Conditions.{by-bool}
+use Rattle.model.proofs.Conditions.{by-bool, by-cond}
 use Rattle.model.proofs.TurnedAway.{short-away, works, made-row}
 use Rattle.model.proofs.Valid.{fresh-fits, step-fits}
 use Rattle.layout.specs.Unit.{configIn, configGiven}
 use Rattle.layout.specs.Records.{roomOf}
 use Rattle.layout.specs.Kept.{Kept, stateOf, Owned, ownedOf, keptIn, standing}
 use Rattle.unit.specs.Fresh.{FreshPromise}
-use Rattle.unit.specs.Calls.{results as resultsOf, Calls, none as noCalls, heard as heardCall, heeded as heededCall}
+use Rattle.unit.specs.Calls.{NoStretch, results as resultsOf, Calls, none as noCalls, heard as heardCall, heeded as heededCall}
 use Rattle.unit.proofs.FreshLaws.{laid-config, laid-state, laid-stands}
 use Rattle.unit.proofs.CallLaws.{calls-after, calls-trace}
-use Rattle.board.specs.Told.{actionNumber, outputNumber}
-use Rattle.board.specs.Runs.{Numbered, numbered, answerShown, Runs, none, heard, heeded, RunsAs, Taken, none as noneTaken, one}
+use Rattle.board.specs.Told.{actionNumber, outputNumber, missingNumber, bitsNumber, sampledBy}
+use Rattle.board.specs.Runs.{Numbered, numbered, unsampled, sampleShown, NoSample, Runs, none, heard, heeded, sampled, RunsAs, Taken, none as noneTaken, one}
 use Rattle.board.proofs.ToldLaws.{shown-told}
+
+-- ---- what a call showed, in numbers
+
+-- only a sample tells of samples
+no-sample-made : (c : Config) (s : State) (e : Event) → NoStretch e → NoSample e → sampledBy (makeOf c (s .inner) e .answer) ≡ unsampled
+unfolding NoStretch NoSample makeOf elapsedMade localOf wordMade valueMade contactMade localMade storeMade quiet sampledBy missingNumber bitsNumber word value
+no-sample-made c s (stretch t) n m = absurd (n t refl)
+no-sample-made c s (elapsed ms) n m = refl
+no-sample-made c s (local (setWord i w)) n m = refl
+no-sample-made c s (local (setValue i v)) n m = refl
+no-sample-made c s (local (pulses i p)) n m = refl
+no-sample-made c s (local (contact i p)) n m = refl
+no-sample-made c s (local (store f t vs)) n m = refl
+no-sample-made c s (local (sample i)) n m = absurd (m i refl)
+
+no-sample-told : (c : Config) (s : State) (e : Event) → NoStretch e → NoSample e → sampledBy (resultOf c s e .answer) ≡ unsampled
+unfolding resultOf decided turnedAway shows sampledBy missingNumber bitsNumber word value
+no-sample-told c s e n m =
+    by-cond {A = Result} (λ r. sampledBy (r .answer) ≡ unsampled) (short e) (λ _. refl)
+    (λ _. by-cond {A = Result} (λ r. sampledBy (r .answer) ≡ unsampled) (fits c s) (λ _. no-sample-made c s e n m) (λ _. refl))
+
+sample-heard : (n : SpecialCalculation) → NoStretch (local (sample n))
+unfolding NoStretch
+sample-heard n s e = subst Heard e tt
+  where
+    Heard : Event → Type 0
+    Heard (stretch t) = ⊥
+    Heard (elapsed ms) = Unit
+    Heard (local l) = Unit
 
 pub runs-as : {x y : Owned} {es : List Event} {xs : List Numbered} → standing x ≡ true → Runs x es xs y → RunsAs x es xs y
 unfolding numbered actionNumber outputNumber
@@ -45,13 +76,23 @@ runs-as {y = z} e (heard {y = y} {exit = exit} {es = es} a rest) =
       stand = w .stand;
       steady = record { layout = w .steady .layout ∙ b .steady .layout; config = w .steady .config ∙ b .steady .config; long = w .steady .long ∙ b .steady .long };
     }
-runs-as {y = z} e (heeded {y = y} {es = es} l a rest) =
+runs-as {y = z} e (sampled {y = y} {c = n} {es = es} a rest) =
+    let b = a .tells .read e in
+    let w = runs-as (b .stand) rest in
+    record {
+      results = _;
+      calls = heededCall (sample-heard n) (b .heeds) (subst (λ (c : Config). Calls c (keptIn y) es (w .results) (keptIn z)) (b .steady .config) (w .calls));
+      shown = λ i. sampleShown (a .said i) (a .told i) ∷ w .shown i;
+      stand = w .stand;
+      steady = record { layout = w .steady .layout ∙ b .steady .layout; config = w .steady .config ∙ b .steady .config; long = w .steady .long ∙ b .steady .long };
+    }
+runs-as {x = x} {y = z} e (heeded {y = y} {e = ev} {es = es} l o a rest) =
     let b = a .tells .read e in
     let w = runs-as (b .stand) rest in
     record {
       results = _;
       calls = heededCall l (b .heeds) (subst (λ (c : Config). Calls c (keptIn y) es (w .results) (keptIn z)) (b .steady .config) (w .calls));
-      shown = λ i. answerShown (a .said i) ∷ w .shown i;
+      shown = λ i. record { answer = a .said i; action = 0; output = 0; sampled = (sym (ap sampledBy (b .heeds .answered) ∙ no-sample-told (configIn (x .unit)) _ ev l o)) i; reply = [] } ∷ w .shown i;
       stand = w .stand;
       steady = record { layout = w .steady .layout ∙ b .steady .layout; config = w .steady .config ∙ b .steady .config; long = w .steady .long ∙ b .steady .long };
     }
@@ -65,6 +106,7 @@ answer-row c s e (Storing Swapped) h n = omega arith
 answer-row c s e (Storing Full) h n = omega arith
 answer-row c s e (Storing NotEquipped) h n = omega arith
 answer-row c s e (Storing WrongValues) h n = omega arith
+answer-row c s e (Sampling r) h n = omega arith
 
 result-row : (c : Config) (s : State) (e : Event) → fits c s ≡ true → answerNumber (resultOf c s e .answer) ≡ 17 → ⊥
 unfolding turnedAway shows

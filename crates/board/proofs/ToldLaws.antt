@@ -5,7 +5,7 @@ use mathlib.Core.List.{List, [], _∷_}
 use mathlib.Core.Bool.{Bool, cond}
 use lib.ListN.{take}
 use native.Mathlib.Omega.{arith}
-use Rattle.chars.specs.Word.{wordAt}
+use Rattle.chars.specs.Word.{word, value, wordAt}
 use Rattle.model.specs.Limits.{longestReply}
 use Rattle.model.specs.Outcome.{numberOf}
 use Rattle.model.specs.declared.ControlOutput.{ControlOutput}
@@ -13,8 +13,9 @@ use Rattle.model.specs.declared.Action.{Action}
 use Rattle.model.specs.declared.Action.the-variants.{Rest, Operate}
 use Rattle.serve.specs.declared.Made.{Made}
 use Rattle.unit.specs.Calls.{madeShown}
-use Rattle.board.specs.Told.{turnedBy, actionNumber, outputNumber}
-use Rattle.board.specs.Runs.{Numbered, numbered, numbersShown}
+use Rattle.model.specs.declared.Answer.{Answer}
+use Rattle.board.specs.Told.{turnedBy, actionNumber, outputNumber, missingNumber, bitsNumber, sampledBy}
+use Rattle.board.specs.Runs.{Numbered, numbered, unsampled, numbersShown}
 
 -- ---- the output action
 
@@ -50,7 +51,14 @@ sent-back m h = omega arith
 -- what a stretch told in numbers is its result in numbers
 pub shown-told : (m : Made) {n : ℕ} {ts : List ℕ} (exit : List ℕ) → m .sent ≤ longestReply → n ≡ numberOf (m .outcome) → ts ≡ turnedBy m
     → numbersShown n ts exit ≡ numbered (madeShown m exit)
-unfolding numbered
+unfolding numbered sampledBy missingNumber bitsNumber word value
 shown-told m {n} {ts} exit h e t =
     (λ i. numbersShown (e i) (t i) exit)
-    ∙ (λ i. record { answer = numberOf (m .outcome); action = actionNumber (m .action); output = outputNumber (m .action); reply = take (sent-back m h i) exit })
+    ∙ (λ i. record { answer = numberOf (m .outcome); action = actionNumber (m .action); output = outputNumber (m .action); sampled = unsampled; reply = take (sent-back m h i) exit })
+
+-- ---- a sample
+
+pub sampled-told : (a : Answer) {m b : ℕ} → m ≡ missingNumber a → b ≡ bitsNumber a
+    → (m % 256 ∷ m / 256 ∷ b % 256 ∷ b / 256 % 256 ∷ b / 65536 % 256 ∷ b / 16777216 ∷ []) ≡ sampledBy a
+unfolding sampledBy word value
+sampled-told a p q = λ i. p i % 256 ∷ p i / 256 ∷ q i % 256 ∷ q i / 256 % 256 ∷ q i / 65536 % 256 ∷ q i / 16777216 ∷ []

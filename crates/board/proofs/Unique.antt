@@ -13,7 +13,8 @@ use Rattle.layout.specs.Kept.{Owned}
 use Rattle.serve.proofs.Unique.{one-turn}
 use Rattle.unit.proofs.Unique.{one-event, one-laid}
 use Rattle.serve.specs.declared.Made.{Made}
-use Rattle.board.specs.Told.{turnedBy, TurnPromise, AnswerPromise}
+use Rattle.model.specs.declared.SpecialCalculation.{SpecialCalculation}
+use Rattle.board.specs.Told.{turnedBy, sampledBy, TurnPromise, AnswerPromise, SamplePromise}
 use Rattle.board.proofs.osturdam_layout.Reads as osturdam-layout
 use Rattle.board.proofs.osturdam_check.Reads as osturdam-check
 use Rattle.board.proofs.osturdam_valid.Reads as osturdam-valid
@@ -27,6 +28,7 @@ use Rattle.board.proofs.osturdam_set_word.Reads as osturdam-set-word
 use Rattle.board.proofs.osturdam_pulses.Reads as osturdam-pulses
 use Rattle.board.proofs.osturdam_set_value.Reads as osturdam-set-value
 use Rattle.board.proofs.osturdam_store_record.Reads as osturdam-store-record
+use Rattle.board.proofs.osturdam_sample.Reads as osturdam-sample
 
 module _ (x y z : Owned) (long : length (x .unit) ≡ unitLong) (p : Characters (y .unit)) (q : Characters (z .unit)) where
   -- osturdam_stretch
@@ -44,6 +46,12 @@ module _ (x y z : Owned) (long : length (x .unit) ≡ unitLong) (p : Characters 
   pub one-saying : (e : Event) {n m : ℕ} → AnswerPromise e x y n → AnswerPromise e x z m → (n ≡ m) × (y ≡ z)
   one-saying e a b =
       let w = one-event e x y z long p q (a .tells) (b .tells) in (a .said ∙ ap answerNumber (w .0) ∙ sym (b .said), w .1)
+
+  -- osturdam_sample
+  pub one-sampling : (c : SpecialCalculation) {n m : ℕ} {cs ds : List ℕ} → SamplePromise c x y n cs → SamplePromise c x z m ds → (n ≡ m) × (cs ≡ ds) × (y ≡ z)
+  one-sampling c a b =
+      let w = one-event _ x y z long p q (a .tells) (b .tells) in
+      (a .said ∙ ap answerNumber (w .0) ∙ sym (b .said), a .told ∙ ap sampledBy (w .0) ∙ sym (b .told), w .1)
 
 -- ---- the contract of each call
 
@@ -124,3 +132,15 @@ one-osturdam-store-record-unit κ a x y s t g h p q = ap (λ (z : Owned). z .uni
 
 pub one-osturdam-store-record-records : OneWhere (λ κ a s. (length (a .0 .now) ≡ unitLong) × Characters (s .0 .now)) osturdam-store-record.Post (λ κ r s. s .1 .1 .0 .now)
 one-osturdam-store-record-records κ a x y s t g h p q = ap (λ (z : Owned). z .area) (one-saying _ _ _ (g .0) (g .1) (h .1) _ p q .1)
+
+pub one-osturdam-sample : OneWhere (λ κ a s. (length (a .0 .now) ≡ unitLong) × Characters (s .0 .now)) osturdam-sample.Post (λ κ r s. r)
+one-osturdam-sample κ a x y s t g h p q = one-sampling _ _ _ (g .0) (g .1) (h .1) _ p q .0
+
+pub one-osturdam-sample-unit : OneWhere (λ κ a s. (length (a .0 .now) ≡ unitLong) × Characters (s .0 .now)) osturdam-sample.Post (λ κ r s. s .0 .now)
+one-osturdam-sample-unit κ a x y s t g h p q = ap (λ (z : Owned). z .unit) (one-sampling _ _ _ (g .0) (g .1) (h .1) _ p q .2)
+
+pub one-osturdam-sample-records : OneWhere (λ κ a s. (length (a .0 .now) ≡ unitLong) × Characters (s .0 .now)) osturdam-sample.Post (λ κ r s. s .1 .1 .0 .now)
+one-osturdam-sample-records κ a x y s t g h p q = ap (λ (z : Owned). z .area) (one-sampling _ _ _ (g .0) (g .1) (h .1) _ p q .2)
+
+pub one-osturdam-sample-sampled : OneWhere (λ κ a s. (length (a .0 .now) ≡ unitLong) × Characters (s .0 .now)) osturdam-sample.Post (λ κ r s. s .1 .1 .1 .1 .0 .now)
+one-osturdam-sample-sampled κ a x y s t g h p q = one-sampling _ _ _ (g .0) (g .1) (h .1) _ p q .1

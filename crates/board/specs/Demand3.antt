@@ -47,6 +47,7 @@ pub record AlikeShown (a b : Numbered) : Type 0 where
   pub answer : a .answer ≡ b .answer
   pub action : a .action ≡ b .action
   pub output : a .output ≡ b .output
+  pub sampled : a .sampled ≡ b .sampled
   pub reply : AlikeReply (a .reply) (b .reply)
 
 pub data AlikeRun : List Numbered → List Numbered → Type 0 where

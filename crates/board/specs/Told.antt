@@ -1,11 +1,17 @@
 -- What the calls from C promise: the entries' promises, with what is shown in numbers.
 use mathlib.Core.Path.{_≡_}
 use Prim.Native.Nat.{ℕ, _/_, _%_}
-use mathlib.Core.List.{List, [], _∷_}
+use mathlib.Core.List.{List, [], _∷_, _++_}
 use mathlib.Core.Bool.{cond}
+use lib.Ieee.{binary32, toBits}
+use Rattle.chars.specs.Word.{word, value}
 use Rattle.model.specs.Outcome.{numberOf, answerNumber}
-use Rattle.model.specs.Event.{Event}
+use Rattle.model.specs.Event.{Event, sample, local}
+use Rattle.model.specs.declared.SpecialCalculation.{SpecialCalculation}
+use Rattle.model.specs.declared.Sampled.{Sampled}
+use Rattle.model.specs.declared.Sampled.the-variants.{Ready, NotReady}
 use Rattle.model.specs.declared.Answer.{Answer}
+use Rattle.model.specs.declared.Answer.the-variants.{Ended, Storing, Sampling}
 use Rattle.model.specs.declared.Action.{Action}
 use Rattle.model.specs.declared.Action.the-variants.{Rest, Operate}
 use Rattle.layout.specs.Kept.{Owned}
@@ -40,3 +46,34 @@ pub record AnswerPromise (e : Event) (x y : Owned) (n : ℕ) : Type 0 where
   pub answer : Answer
   pub tells : EventPromise e x y answer
   pub said : n ≡ answerNumber answer
+
+-- ---- a sample: the answer is a number, and what is missing and the mean are told besides (Request 4.7)
+
+unfoldable pub missingIn : Sampled → ℕ
+missingIn (Ready x) = 0
+missingIn (NotReady m) = m
+
+unfoldable pub bitsIn : Sampled → ℕ
+bitsIn (Ready x) = toBits binary32 x
+bitsIn (NotReady m) = 0
+
+-- the same of any answer: nothing is missing, and there is no mean, where no sample was taken
+unfoldable pub missingNumber : Answer → ℕ
+missingNumber (Ended o) = 0
+missingNumber (Storing o) = 0
+missingNumber (Sampling s) = missingIn s
+
+unfoldable pub bitsNumber : Answer → ℕ
+bitsNumber (Ended o) = 0
+bitsNumber (Storing o) = 0
+bitsNumber (Sampling s) = bitsIn s
+
+-- what is sampled: how many samples are missing and the bits of the mean, low character first
+unfoldable pub sampledBy : Answer → List ℕ
+sampledBy a = word (missingNumber a) ++ value (bitsNumber a)
+
+pub record SamplePromise (n : SpecialCalculation) (x y : Owned) (r : ℕ) (cs : List ℕ) : Type 0 where
+  pub answer : Answer
+  pub tells : EventPromise (local (sample n)) x y answer
+  pub said : r ≡ answerNumber answer
+  pub told : cs ≡ sampledBy answer

@@ -4,6 +4,8 @@ mod answers;
 
 use answers::action_number;
 use answers::answer_number;
+use answers::bits_number;
+use answers::missing_number;
 use answers::output_number;
 use checkword::check_word;
 use frames::outcomes::number;
@@ -24,7 +26,7 @@ ghost use Rattle.layout.specs.Unit.{layoutNumber, unitIn, configGiven};
 ghost use Rattle.layout.specs.Records.{roomOf};
 ghost use Rattle.layout.specs.Kept.{ownedOf};
 ghost use Rattle.unit.specs.Fresh.{FreshPromise};
-ghost use Rattle.board.specs.Told.{TurnPromise, AnswerPromise};
+ghost use Rattle.board.specs.Told.{TurnPromise, AnswerPromise, SamplePromise};
 
 // The number of the layout that a unit's memory has.
 #[no_mangle]
@@ -202,5 +204,33 @@ pub extern "C" fn osturdam_store_record<'a>(
         (ownedOf (now (unit .exit)) (now (block .entry)) (now (records .exit))) r ⌝ }
 {
     let answer = unit::store_record(unit, block, records, File(file), event, given);
+    answer_number(answer)
+}
+
+// A sample for a mean: 0 where it is taken, 8 for a number that is no mean. What is sampled: how many samples are still missing and the bits
+// of the mean, low character first, each 0 where there is none.
+#[no_mangle]
+pub extern "C" fn osturdam_sample<'a>(
+    unit: &mut [u8; UNIT],
+    block: &'a [u8],
+    records: &mut [u8],
+    calculation: u8,
+    sampled: &mut [u8; 6],
+) -> u8
+    ensures { λ r. ⌜ SamplePromise (record { 0 = calculation })
+        (ownedOf (now (unit .entry)) (now (block .entry)) (now (records .entry)))
+        (ownedOf (now (unit .exit)) (now (block .entry)) (now (records .exit))) r (now (sampled .exit)) ⌝ }
+{
+    let answer = unit::sample(unit, block, records, SpecialCalculation(calculation));
+    let missing = missing_number(answer);
+    let bits = bits_number(answer);
+    *sampled = [
+        (missing % 256) as u8,
+        (missing / 256) as u8,
+        (bits % 256) as u8,
+        (bits / 256 % 256) as u8,
+        (bits / 65536 % 256) as u8,
+        (bits / 16777216) as u8,
+    ];
     answer_number(answer)
 }

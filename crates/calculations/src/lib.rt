@@ -1,6 +1,6 @@
-// Function 03: calculation values, all of them or those that are asked for.
+// Function 03: calculation values, all of them or those that are asked for, by a table of the numbers that are equipped now.
 use layout::UNIT;
-use layout::has_calculation;
+use layout::equipped_now;
 use layout::value_of;
 use model::Filled;
 use model::Frame;
@@ -15,17 +15,27 @@ ghost use lib.ListN.{length};
 ghost use Rattle.chars.specs.Gather.{Gathered, gather, upFrom};
 ghost use Rattle.model.specs.Limits.{replyHead, longestReply, mostAsked};
 ghost use Rattle.model.specs.Frame.{asked};
+ghost use Rattle.model.specs.Config.{hasCalculation};
 ghost use Rattle.model.specs.Scan.{Fills, inRoom};
+ghost use Rattle.model.specs.Means.{equippedNow};
 ghost use Rattle.model.specs.Calculations.{valueOf, allOf, pairOf, missingOf, askedOf, calculationsOf};
 ghost use Rattle.layout.specs.Unit.{unitIn, configIn};
+ghost use Rattle.layout.specs.Judged.{samplesBy};
+
+fn has(table: &[u8; 128], number: SpecialCalculation) -> bool
+    ensures { λ r. ⌜ r ≡ hasCalculation (now (table .entry)) (number .0) ⌝ }
+{
+    let n = number.0 as usize;
+    if n < 128 { table[n] != 0 } else { false }
+}
 
 // How many calculation numbers are equipped: each gives four characters. A count of one byte is summed sixteen at a time.
-fn count(unit: &[u8; UNIT]) -> u8
-    ensures { λ r. ⌜ ((values : List ℕ) → 4 * r ≡ length (gather (valueOf (configIn (now (unit .entry)) .calculations) values) (upFrom 0 128))) ⌝ }
+fn count(table: &[u8; 128]) -> u8
+    ensures { λ r. ⌜ ((values : List ℕ) → 4 * r ≡ length (gather (valueOf (now (table .entry)) values) (upFrom 0 128))) ⌝ }
 {
     let mut n: u8 = 0;
     for k in 0..128 {
-        if has_calculation(unit, SpecialCalculation(k)) {
+        if has(table, SpecialCalculation(k)) {
             n += 1;
         }
     }
@@ -33,15 +43,15 @@ fn count(unit: &[u8; UNIT]) -> u8
 }
 
 // The values of the equipped calculation numbers go to reply behind the head; where the next goes.
-fn write(unit: &[u8; UNIT], reply: &mut [u8]) -> usize
+fn write(unit: &[u8; UNIT], table: &[u8; 128], reply: &mut [u8]) -> usize
     requires { ⌜ longestReply ≤ length (now reply) ⌝ }
-    ensures { λ r. ⌜ Gathered (valueOf (configIn (now (unit .entry)) .calculations) (unitIn (now (unit .entry)) .values)) (upFrom 0 128)
+    ensures { λ r. ⌜ Gathered (valueOf (now (table .entry)) (unitIn (now (unit .entry)) .values)) (upFrom 0 128)
         (now (reply .entry)) replyHead (now (reply .exit)) r ⌝ }
     ensures { λ r. ⌜ r ≤ longestReply ⌝ }
 {
     let mut to = Reply::HEAD;
     for k in 0..128 {
-        if has_calculation(unit, SpecialCalculation(k)) {
+        if has(table, SpecialCalculation(k)) {
             chars::put_value(reply, to, value_of(unit, SpecialCalculation(k)));
             to += 4;
         }
@@ -50,15 +60,15 @@ fn write(unit: &[u8; UNIT], reply: &mut [u8]) -> usize
 }
 
 // 127 values of four characters fit a reply.
-fn all(unit: &[u8; UNIT], reply: &mut [u8]) -> Filled
+fn all(unit: &[u8; UNIT], table: &[u8; 128], reply: &mut [u8]) -> Filled
     requires { ⌜ longestReply ≤ length (now reply) ⌝ }
     ensures { λ r. ⌜ Fills (now (reply .entry)) (now (reply .exit))
-        (allOf (configIn (now (unit .entry)) .calculations) (unitIn (now (unit .entry)) .values)) r ⌝ }
+        (allOf (now (table .entry)) (unitIn (now (unit .entry)) .values)) r ⌝ }
 {
-    if 127 < count(unit) {
+    if 127 < count(table) {
         return refused(Outcome::TooLong);
     }
-    let end = write(unit, reply);
+    let end = write(unit, table, reply);
     Filled {
         outcome: Outcome::Done,
         count: (end - Reply::HEAD) as u16,
@@ -66,16 +76,16 @@ fn all(unit: &[u8; UNIT], reply: &mut [u8]) -> Filled
 }
 
 // The numbers of ns that are not equipped go to reply behind the head; where the next goes.
-fn missing(unit: &[u8; UNIT], ns: &[u8], reply: &mut [u8]) -> usize
+fn missing(table: &[u8; 128], ns: &[u8], reply: &mut [u8]) -> usize
     requires { ⌜ (length (now ns) ≤ mostAsked) × (longestReply ≤ length (now reply)) ⌝ }
-    ensures { λ r. ⌜ Gathered (missingOf (configIn (now (unit .entry)) .calculations)) (now (ns .entry)) (now (reply .entry)) replyHead (now (reply .exit)) r ⌝ }
+    ensures { λ r. ⌜ Gathered (missingOf (now (table .entry))) (now (ns .entry)) (now (reply .entry)) replyHead (now (reply .exit)) r ⌝ }
     ensures { λ r. ⌜ r ≤ longestReply ⌝ }
 {
     let mut to = Reply::HEAD;
     let n = ns.len();
     for i in 0..n {
         let x = ns[i];
-        if has_calculation(unit, SpecialCalculation(x)) {} else {
+        if has(table, SpecialCalculation(x)) {} else {
             reply[to] = x;
             to += 1;
         }
@@ -101,12 +111,12 @@ fn pairs(unit: &[u8; UNIT], ns: &[u8], reply: &mut [u8]) -> usize
 }
 
 // Those not equipped are written at once: where none was, nothing was written. 102 pairs of five characters fit a reply.
-fn those(unit: &[u8; UNIT], ns: &[u8], reply: &mut [u8]) -> Filled
+fn those(unit: &[u8; UNIT], table: &[u8; 128], ns: &[u8], reply: &mut [u8]) -> Filled
     requires { ⌜ (length (now ns) ≤ mostAsked) × (longestReply ≤ length (now reply)) ⌝ }
     ensures { λ r. ⌜ Fills (now (reply .entry)) (now (reply .exit))
-        (askedOf (configIn (now (unit .entry)) .calculations) (unitIn (now (unit .entry)) .values) (now (ns .entry))) r ⌝ }
+        (askedOf (now (table .entry)) (unitIn (now (unit .entry)) .values) (now (ns .entry))) r ⌝ }
 {
-    let end = missing(unit, ns, reply);
+    let end = missing(table, ns, reply);
     if end != Reply::HEAD {
         return Filled {
             outcome: Outcome::NotValid,
@@ -123,9 +133,15 @@ fn those(unit: &[u8; UNIT], ns: &[u8], reply: &mut [u8]) -> Filled
     }
 }
 
-pub fn scan<'a>(unit: &'a [u8; UNIT], frame: Frame, body: &'a [u8], reply: &mut [u8]) -> Filled
+fn scan_by<'a>(
+    unit: &'a [u8; UNIT],
+    table: &'a [u8; 128],
+    frame: Frame,
+    body: &'a [u8],
+    reply: &mut [u8],
+) -> Filled
     ensures { λ r. ⌜ Fills (now (reply .entry)) (now (reply .exit)) (inRoom (length (now (reply .entry)))
-        (calculationsOf (configIn (now (unit .entry)) .calculations) (unitIn (now (unit .entry)) .values) (asked frame (now (body .entry))))) r ⌝ }
+        (calculationsOf (now (table .entry)) (unitIn (now (unit .entry)) .values) (asked frame (now (body .entry))))) r ⌝ }
 {
     if reply.len() < Reply::LONGEST {
         return refused(Outcome::BufferShort);
@@ -136,7 +152,7 @@ pub fn scan<'a>(unit: &'a [u8; UNIT], frame: Frame, body: &'a [u8], reply: &mut 
         if n != 0 {
             return refused(Outcome::WrongCount);
         }
-        return all(unit, reply);
+        return all(unit, table, reply);
     }
     if command != 0x00 {
         return refused(Outcome::Unknown);
@@ -147,5 +163,15 @@ pub fn scan<'a>(unit: &'a [u8; UNIT], frame: Frame, body: &'a [u8], reply: &mut 
     if Frame::LONGEST - Frame::SHORTEST < n {
         return refused(Outcome::WrongCount);
     }
-    those(unit, body, reply)
+    those(unit, table, body, reply)
+}
+
+pub fn scan<'a>(unit: &'a [u8; UNIT], frame: Frame, body: &'a [u8], reply: &mut [u8]) -> Filled
+    ensures { λ r. ⌜ Fills (now (reply .entry)) (now (reply .exit)) (inRoom (length (now (reply .entry)))
+        (calculationsOf (equippedNow (configIn (now (unit .entry))) (samplesBy (unitIn (now (unit .entry)) .taken))) (unitIn (now (unit .entry)) .values)
+        (asked frame (now (body .entry))))) r ⌝ }
+{
+    let mut table = [0u8; 128];
+    equipped_now(unit, &mut table);
+    scan_by(unit, &table, frame, body, reply)
 }

@@ -26,6 +26,9 @@ use Rattle.layout.specs.Unit.{
   filesRegion,
   valuesRegion,
   oldestRegion,
+  meansRegion,
+  sampledRegion,
+  windowsRegion,
   numbersRegion,
   wordsRegion,
   resultsRegion,
@@ -33,6 +36,7 @@ use Rattle.layout.specs.Unit.{
   countsRegion,
   droppedRegion,
   changedRegion,
+  takenRegion,
   wordsIn,
   resultsIn,
   configFrom,
@@ -132,6 +136,9 @@ module _ (cs : List ℕ) (long : length cs ≡ configLong) where
         values = inner valuesRegion (lit< tt) (lit< tt) refl refl (lit≤ tt) refl (lit≤ tt) i;
         oldest = inner oldestRegion (lit< tt) (lit< tt) refl refl (lit≤ tt) refl (lit≤ tt) i;
         block = wordAt (inner lengthRegion (lit< tt) (lit< tt) refl refl (lit≤ tt) refl (lit≤ tt) i) 0;
+        means = inner meansRegion (lit< tt) (lit< tt) refl refl (lit≤ tt) refl (lit≤ tt) i;
+        sampled = inner sampledRegion (lit< tt) (lit< tt) refl refl (lit≤ tt) refl (lit≤ tt) i;
+        windows = wordsIn (inner windowsRegion (lit< tt) (lit< tt) refl refl (lit≤ tt) refl (lit≤ tt) i);
       }
 
   blank-layout : wordAt (regionIn unitSizes (blankUnit cs) layoutRegion) 0 ≡ layoutNumber
@@ -151,4 +158,5 @@ module _ (cs : List ℕ) (long : length cs ≡ configLong) where
         counts = back countsRegion (lit< tt) refl refl (lit≤ tt) (lit≤ tt) i;
         dropped = (ap wordsIn (back droppedRegion (lit< tt) refl refl (lit≤ tt) (lit≤ tt)) ∙ zero-words 32) i;
         changed = back changedRegion (lit< tt) refl refl (lit≤ tt) (lit≤ tt) i;
+        taken = (ap wordsIn (back takenRegion (lit< tt) refl refl (lit≤ tt) (lit≤ tt)) ∙ zero-words 16) i;
       }

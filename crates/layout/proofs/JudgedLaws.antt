@@ -18,8 +18,10 @@ use Rattle.chars.proofs.PutLaws.{part-none, part-more}
 use Rattle.chars.proofs.GatherLaws.{up-none, up-more}
 use Rattle.model.specs.Config.{Config, has, within, hasFile, noneIn, fileValid, validOf}
 use Rattle.model.specs.State.{Areas, Files, heldIn}
+use Rattle.model.specs.Limits.{mostMeans}
+use Rattle.model.specs.Means.{samplesAt}
 use Rattle.model.specs.Clock.{clockFits}
-use Rattle.model.specs.Fits.{fits, areasFit, coreFits, portFits, historyFits, memoryFits, replyFits, fileFits}
+use Rattle.model.specs.Fits.{fits, areasFit, coreFits, portFits, historyFits, memoryFits, replyFits, fileFits, samplesFit}
 use Rattle.model.specs.declared.Core.{Core}
 use Rattle.model.specs.declared.HistoryReply.{HistoryReply}
 use Rattle.model.specs.declared.Memory.{Memory}
@@ -40,6 +42,8 @@ use Rattle.layout.specs.Judged.{
   portJudged,
   coreJudged,
   configJudged,
+  samplesBy,
+  meansJudged,
 }
 
 -- ---- tests in a row: the answer x where the first was passed, and where it was not
@@ -108,7 +112,7 @@ unfolding noneIn every
 none-start table low = rw part-none
 
 -- past the end a table reads 0, which is not equipped
-none-next : (table : List ℕ) (low i : ℕ) → noneIn table low (i + 1) ≡ (noneIn table low i && eqb (getD table (low + i) 0) 0)
+pub none-next : (table : List ℕ) (low i : ℕ) → noneIn table low (i + 1) ≡ (noneIn table low i && eqb (getD table (low + i) 0) 0)
 unfolding noneIn
 none-next table low i =
     by-bool (ltb (low + i) (length table))
@@ -126,6 +130,12 @@ unfolding heldIn filesBy
 held-by [] f = refl
 held-by (n ∷ counts) zero = length-replicate n []
 held-by (n ∷ counts) (suc f) = held-by counts f
+
+pub sampled-by : (taken : List ℕ) (p : ℕ) → length (samplesAt (samplesBy taken) p) ≡ getD taken p 0
+unfolding samplesAt samplesBy
+sampled-by [] p = refl
+sampled-by (n ∷ taken) zero = length-replicate n 0
+sampled-by (n ∷ taken) (suc p) = sampled-by taken p
 
 -- ---- a file, by its tables
 
@@ -183,21 +193,22 @@ module _ (c : Config) (fs gs : Files) (same : (f : ℕ) → f < 32 → length (h
   history-same m ns ms = rw (every-same (fileFits c fs) (fileFits c gs) 32 file-same, memory-same m)
 
 -- the parts of the judgement, in their order
-fits-parts : (c : Config) (lent : ℕ) (counts : List ℕ) (core : Core) (memory : Memory) (port : Port)
-    → fitsBy c lent counts core memory port
-    ≡ (validOf c && (portFits port && (coreFits c core && (eqb lent (c .block) && historyFits c (record { memory = memory; files = filesBy counts; dropped = [] })))))
+fits-parts : (c : Config) (lent : ℕ) (counts taken : List ℕ) (core : Core) (memory : Memory) (port : Port)
+    → fitsBy c lent counts taken core memory port
+    ≡ (validOf c && (portFits port && (coreFits c core && ((eqb lent (c .block) && every (samplesFit c (samplesBy taken)) (upFrom 0 mostMeans)) && historyFits c (record { memory = memory; files = filesBy counts; dropped = [] })))))
 unfolding fitsBy keptBy fits areasFit
-fits-parts c lent counts core memory port = rw (length-replicate {A = ℕ} lent 0)
+fits-parts c lent counts taken core memory port = rw (length-replicate {A = ℕ} lent 0)
 
 -- judged by the counts, a unit that holds so many records is judged as by its records
-pub fits-by : (c : Config) (lent : ℕ) (counts : List ℕ) (core : Core) (memory : Memory) (port : Port) (areas : Areas) (fs : Files) (dropped : List ℕ)
+pub fits-by : (c : Config) (lent : ℕ) (counts taken : List ℕ) (core : Core) (memory : Memory) (port : Port) (areas : Areas) (fs : Files) (dropped : List ℕ)
     → length (areas .block) ≡ lent
+    → ((p : ℕ) → p < mostMeans → length (samplesAt (areas .samples) p) ≡ getD taken p 0)
     → ((f : ℕ) → f < 32 → length (heldIn fs f) ≡ getD counts f 0)
-    → fitsBy c lent counts core memory port
+    → fitsBy c lent counts taken core memory port
     ≡ fits c (record { inner = record { core = core; areas = areas; history = record { memory = memory; files = fs; dropped = dropped } }; port = port })
 unfolding fits areasFit
-fits-by c lent counts core memory port areas fs dropped e same =
-    rw (fits-parts, e, history-same c fs (filesBy counts) (λ f h. same f h ∙ sym (held-by counts f)) memory dropped [])
+fits-by c lent counts taken core memory port areas fs dropped e many same =
+    rw (fits-parts, e, every-same (samplesFit c (areas .samples)) (samplesFit c (samplesBy taken)) mostMeans (λ p h. unfold samplesFit in rw (many p h, sampled-by taken p)), history-same c fs (filesBy counts) (λ f h. same f h ∙ sym (held-by counts f)) memory dropped [])
 
 -- ---- numbers in place of what they mean
 
@@ -241,27 +252,30 @@ clock-judged ks =
 
 -- ---- the judgement in the order of the code
 
-turned : (a h w b m k u n x y z v p t g s l f r : Bool)
-    → ((a && (h && (w && (b && (m && k))))) && ((u && (n && (x && (y && (z && v))))) && (p && ((t && (g && s)) && (l && (f && r))))))
-    ≡ (((a && t) && ((h && g) && ((w && s) && (b && (k && p))))) && ((u && (n && (l && (x && (y && z))))) && ((v && f) && (m && r))))
-turned true true true true true true true true true true true true true t g s l f r = simp and-assoc
-turned false h w b m k u n x y z v p t g s l f r = refl
-turned true false w b m k u n x y z v p t g s l f r = simp and-false
-turned true true false b m k u n x y z v p t g s l f r = simp and-false
-turned true true true false m k u n x y z v p t g s l f r = simp and-false
-turned true true true true false k u n x y z v p t g s l f r = simp and-false
-turned true true true true true false u n x y z v p t g s l f r = simp and-false
-turned true true true true true true false n x y z v p t g s l f r = simp and-false
-turned true true true true true true true false x y z v p t g s l f r = simp and-false
-turned true true true true true true true true false y z v p t g s l f r = simp and-false
-turned true true true true true true true true true false z v p t g s l f r = simp and-false
-turned true true true true true true true true true true false v p t g s l f r = simp and-false
-turned true true true true true true true true true true true false p t g s l f r = simp and-false
-turned true true true true true true true true true true true true false t g s l f r = simp and-false
+turned : (a h w b m k u n x y z v p q l o t g s f r : Bool)
+    → ((a && (h && (w && (b && (m && k))))) && ((u && (n && (x && (y && (z && (v && q)))))) && (p && ((t && (g && s)) && ((l && o) && (f && r))))))
+    ≡ (((a && t) && ((h && g) && ((w && s) && (b && (k && p))))) && ((u && (n && (l && (x && (y && z))))) && ((v && f) && ((q && o) && (m && r)))))
+turned true true true true true true true true true true true true true true true true t g s f r = simp and-assoc
+turned false h w b m k u n x y z v p q l o t g s f r = refl
+turned true false w b m k u n x y z v p q l o t g s f r = simp and-false
+turned true true false b m k u n x y z v p q l o t g s f r = simp and-false
+turned true true true false m k u n x y z v p q l o t g s f r = simp and-false
+turned true true true true false k u n x y z v p q l o t g s f r = simp and-false
+turned true true true true true false u n x y z v p q l o t g s f r = simp and-false
+turned true true true true true true false n x y z v p q l o t g s f r = simp and-false
+turned true true true true true true true false x y z v p q l o t g s f r = simp and-false
+turned true true true true true true true true false y z v p q l o t g s f r = simp and-false
+turned true true true true true true true true true false z v p q l o t g s f r = simp and-false
+turned true true true true true true true true true true false v p q l o t g s f r = simp and-false
+turned true true true true true true true true true true true false p q l o t g s f r = simp and-false
+turned true true true true true true true true true true true true false q l o t g s f r = simp and-false
+turned true true true true true true true true true true true true true false l o t g s f r = simp and-false
+turned true true true true true true true true true true true true true true false o t g s f r = simp and-false
+turned true true true true true true true true true true true true true true true false t g s f r = simp and-false
 
-pub in-turn : (c : Config) (lent : ℕ) (counts ks : List ℕ) → length ks ≡ 26
-    → (readable ks && fitsBy c lent counts (coreIn ks) (memoryIn ks) (portIn ks))
+pub in-turn : (c : Config) (lent : ℕ) (counts taken ks : List ℕ) → length ks ≡ 26
+    → (readable ks && fitsBy c lent counts taken (coreIn ks) (memoryIn ks) (portIn ks))
     ≡ (coreJudged c ks && (configJudged c lent
-    && ((every (fileValid c) (upFrom 0 32) && every (fileFits c (filesBy counts)) (upFrom 0 32)) && memoryJudged c counts ks)))
-unfolding validOf coreFits historyFits coreIn memoryIn clockJudged holdJudged writeJudged bitsJudged memoryJudged portJudged coreJudged configJudged
-in-turn c lent counts ks l = rw (readable-parts ks l, fits-parts, turned)
+    && ((every (fileValid c) (upFrom 0 32) && every (fileFits c (filesBy counts)) (upFrom 0 32)) && (meansJudged c taken && memoryJudged c counts ks))))
+unfolding meansJudged validOf coreFits historyFits coreIn memoryIn clockJudged holdJudged writeJudged bitsJudged memoryJudged portJudged coreJudged configJudged
+in-turn c lent counts taken ks l = rw (readable-parts ks l, fits-parts, turned)

@@ -25,6 +25,13 @@ use Rattle.layout.proofs.files.put_dropped.Reads as put-dropped
 use Rattle.layout.proofs.contacts.changed_of.Reads as changed-of
 use Rattle.layout.proofs.contacts.put_changed.Reads as put-changed
 use Rattle.layout.proofs.contacts.all_told.Reads as all-told
+use Rattle.layout.proofs.means.analog_of.Reads as analog-of
+use Rattle.layout.proofs.means.window_of.Reads as window-of
+use Rattle.layout.proofs.means.place_of.Reads as place-of
+use Rattle.layout.proofs.means.taken_of.Reads as taken-of
+use Rattle.layout.proofs.means.put_taken.Reads as put-taken
+use Rattle.layout.proofs.means.window_start.Reads as window-start
+use Rattle.layout.proofs.means.equipped_now.Reads as equipped-now
 use Rattle.layout.proofs.judged.fits.Reads as fits
 use Rattle.layout.proofs.told.Reads as told
 use Rattle.layout.proofs.memory.dump_most.Reads as dump-most
@@ -131,6 +138,27 @@ one-put-changed-unit κ a x y s t p q = p ∙ sym q
 
 pub one-all-told : One all-told.Post (λ κ r s. r)
 one-all-told κ a x y s t p q = p ∙ sym q
+
+pub one-analog-of : One analog-of.Post (λ κ r s. r)
+one-analog-of κ a x y s t p q = p ∙ sym q
+
+pub one-window-of : One window-of.Post (λ κ r s. r)
+one-window-of κ a x y s t p q = p ∙ sym q
+
+pub one-place-of : One place-of.Post (λ κ r s. r)
+one-place-of κ a x y s t p q = p .0 ∙ sym (q .0)
+
+pub one-taken-of : One taken-of.Post (λ κ r s. r)
+one-taken-of κ a x y s t p q = p ∙ sym q
+
+pub one-put-taken-unit : One put-taken.Post (λ κ r s. s .0 .now)
+one-put-taken-unit κ a x y s t p q = p ∙ sym q
+
+pub one-window-start : One window-start.Post (λ κ r s. r)
+one-window-start κ a x y s t p q = p .0 ∙ sym (q .0)
+
+pub one-equipped-now-table : One equipped-now.Post (λ κ r s. s .1 .0 .now)
+one-equipped-now-table κ a x y s t p q = p ∙ sym q
 
 pub one-fits : One fits.Post (λ κ r s. r)
 one-fits κ a x y s t p q = p ∙ sym q

@@ -14,16 +14,16 @@ use Rattle.chars.proofs.PutLaws.{length-put, put-none, put-one}
 use Rattle.chars.proofs.WordLaws.{length-word, length-value}
 use Rattle.model.specs.Config.{Config}
 use Rattle.layout.specs.Regions.{startIn, regionIn, setAt}
-use Rattle.layout.specs.Unit.{Unit, Renumbered, NumbersOnly, numbersIn, unitSizes, unitLong, regionStart, layoutRegion, numberRegion, lengthRegion, inputsRegion, outputsRegion, calculationsRegion, filesRegion, valuesRegion, oldestRegion, numbersRegion, wordsRegion, resultsRegion, fixedRegion, countsRegion, droppedRegion, changedRegion, wordsIn, resultsIn, configFrom, unitFrom, unitIn, configIn, setNumbers, setWords, setValues, setFixed, setCounts, setDropped, setChanged, putIn, putNumber, putWord, putValue, putFixed, putCount, putCounts, putDropped, putChanged}
+use Rattle.layout.specs.Unit.{Unit, Renumbered, NumbersOnly, numbersIn, configSizes, unitSizes, unitLong, regionStart, layoutRegion, numberRegion, lengthRegion, inputsRegion, outputsRegion, calculationsRegion, filesRegion, valuesRegion, oldestRegion, numbersRegion, wordsRegion, resultsRegion, fixedRegion, countsRegion, droppedRegion, changedRegion, takenRegion, wordsIn, resultsIn, configFrom, unitFrom, unitIn, configIn, setNumbers, setWords, setValues, setFixed, setCounts, setDropped, setChanged, setTaken, putIn, putNumber, putWord, putValue, putFixed, putCount, putCounts, putDropped, putChanged, putTaken}
 use Rattle.layout.proofs.RegionLaws.{regions-put, region-whole, region-at, region-past, region-part, region-own, region-most}
 
 -- how long a lent unit is: UNIT of src/lib.rt, as the prover tells the length of an array
 abbrev pub unitFigure : ℕ
-unitFigure = 2602
+unitFigure = 2698
 
 -- and a configuration: CONFIG
 abbrev pub configFigure : ℕ
-configFigure = 868
+configFigure = 932
 
 pub unit-long : (u : List ℕ) → length u ≡ unitFigure → length u ≡ unitLong
 unfolding startIn unitSizes
@@ -89,6 +89,10 @@ module _ (r : ℕ → List ℕ) (x : List ℕ) where
   unfolding unitFrom configFrom setAt
   unit-changed = refl
 
+  unit-taken : unitFrom (setAt r takenRegion x) ≡ setTaken (unitFrom r) (wordsIn x)
+  unfolding unitFrom configFrom setAt
+  unit-taken = refl
+
 -- how long each region is
 sizes : (getD unitSizes wordsRegion 0 ≡ 512) × (getD unitSizes resultsRegion 0 ≡ 512) × (getD unitSizes fixedRegion 0 ≡ 528) × (getD unitSizes countsRegion 0 ≡ 32)
 unfolding unitSizes
@@ -114,7 +118,7 @@ words-most zero (a ∷ r) h = absurd (omega arith)
 words-most (suc n) (a ∷ []) h = omega arith
 words-most (suc n) (a ∷ b ∷ r) h = omega (arith, words-most n r (omega arith))
 
-words-at : (r : List ℕ) (n : ℕ) → getD (wordsIn r) n 0 ≡ wordAt r (2 * n)
+pub words-at : (r : List ℕ) (n : ℕ) → getD (wordsIn r) n 0 ≡ wordAt r (2 * n)
 unfolding wordsIn wordAt
 words-at [] n = omega arith
 words-at (a ∷ []) zero = omega arith
@@ -194,6 +198,12 @@ module _ (u : List ℕ) (long : length u ≡ unitLong) where
       unit-put u droppedRegion (2 * f) (word n) (omega (arith, length-word n)) ∙ unit-dropped _ _
       ∙ ap (setDropped (unitIn u)) (words-put _ f n (omega (arith, region-size droppedRegion (lit< tt))))
 
+  pub taken-written : (p n : ℕ) → p < 16 → unitIn (putTaken u p n) ≡ setTaken (unitIn u) (set (unitIn u .taken) p n)
+  unfolding unitSizes unitFrom
+  taken-written p n h =
+      unit-put u takenRegion (2 * p) (word n) (omega (arith, length-word n)) ∙ unit-taken _ _
+      ∙ ap (setTaken (unitIn u)) (words-put _ p n (omega (arith, region-size takenRegion (lit< tt))))
+
 pub fixed-written : (u : List ℕ) (at : ℕ) (ys : List ℕ) → at + length ys ≤ 528 → unitIn (putFixed u at ys) ≡ setFixed (unitIn u) (put (unitIn u .fixed) at ys)
 unfolding unitSizes unitFrom
 fixed-written u at ys h = unit-put u fixedRegion at ys h ∙ unit-fixed _ _
@@ -208,11 +218,18 @@ changed-written u g b h = unit-put u changedRegion g (b ∷ []) (omega arith) �
 
 -- ---- what is read from where
 
-region-word : (u : List ℕ) (k i : ℕ) → i + 2 ≤ getD unitSizes k 0 → wordAt (regionIn unitSizes u k) i ≡ wordAt u (regionStart k + i)
+pub region-word : (u : List ℕ) (k i : ℕ) → i + 2 ≤ getD unitSizes k 0 → wordAt (regionIn unitSizes u k) i ≡ wordAt u (regionStart k + i)
 unfolding wordAt
 region-word u k i h =
     rw (region-at unitSizes u k i (omega arith), region-at unitSizes u k (i + 1) (omega arith))
     (ap (λ (a : ℕ). getD u (regionStart k + i) 0 + 256 * getD u a 0) (omega arith))
+
+-- the same in a configuration that is given alone
+pub given-word : (cs : List ℕ) (k i : ℕ) → i + 2 ≤ getD (0 ∷ configSizes) k 0 → wordAt (regionIn (0 ∷ configSizes) cs k) i ≡ wordAt cs (startIn (0 ∷ configSizes) k + i)
+unfolding wordAt
+given-word cs k i h =
+    rw (region-at (0 ∷ configSizes) cs k i (omega arith), region-at (0 ∷ configSizes) cs k (i + 1) (omega arith))
+    (ap (λ (a : ℕ). getD cs (startIn (0 ∷ configSizes) k + i) 0 + 256 * getD cs a 0) (omega arith))
 
 module _ (u : List ℕ) where
   pub layout-is : unitIn u .layout ≡ wordAt u (regionStart layoutRegion)

@@ -110,14 +110,18 @@ module _ (u v : List ℕ) (l : length u ≡ unitLong) (m : length v ≡ unitLong
   region-one (suc (suc (suc (suc (suc (suc zero)))))) = ap (λ (x : Unit). x .config .files) e
   region-one (suc (suc (suc (suc (suc (suc (suc zero))))))) = ap (λ (x : Unit). x .config .values) e
   region-one (suc (suc (suc (suc (suc (suc (suc (suc zero)))))))) = ap (λ (x : Unit). x .config .oldest) e
-  region-one (suc (suc (suc (suc (suc (suc (suc (suc (suc zero))))))))) = words-one _ _ (long-u 9 (lit< tt) ∙ sym (long-v 9 (lit< tt))) (chars-u 9) (chars-v 9) (ap (λ (x : Unit). x .numbers) e)
-  region-one (suc (suc (suc (suc (suc (suc (suc (suc (suc (suc zero)))))))))) = words-one _ _ (long-u 10 (lit< tt) ∙ sym (long-v 10 (lit< tt))) (chars-u 10) (chars-v 10) (ap (λ (x : Unit). x .words) e)
-  region-one (suc (suc (suc (suc (suc (suc (suc (suc (suc (suc (suc zero))))))))))) = values-one 128 _ _ (long-u 11 (lit< tt)) (long-v 11 (lit< tt)) (chars-u 11) (chars-v 11) (ap (λ (x : Unit). x .values) e)
-  region-one (suc (suc (suc (suc (suc (suc (suc (suc (suc (suc (suc (suc zero)))))))))))) = ap (λ (x : Unit). x .fixed) e
-  region-one (suc (suc (suc (suc (suc (suc (suc (suc (suc (suc (suc (suc (suc zero))))))))))))) = ap (λ (x : Unit). x .counts) e
-  region-one (suc (suc (suc (suc (suc (suc (suc (suc (suc (suc (suc (suc (suc (suc zero)))))))))))))) = words-one _ _ (long-u 14 (lit< tt) ∙ sym (long-v 14 (lit< tt))) (chars-u 14) (chars-v 14) (ap (λ (x : Unit). x .dropped) e)
-  region-one (suc (suc (suc (suc (suc (suc (suc (suc (suc (suc (suc (suc (suc (suc (suc zero))))))))))))))) = ap (λ (x : Unit). x .changed) e
-  region-one (suc (suc (suc (suc (suc (suc (suc (suc (suc (suc (suc (suc (suc (suc (suc (suc j)))))))))))))))) = refl
+  region-one (suc (suc (suc (suc (suc (suc (suc (suc (suc zero))))))))) = ap (λ (x : Unit). x .config .means) e
+  region-one (suc (suc (suc (suc (suc (suc (suc (suc (suc (suc zero)))))))))) = ap (λ (x : Unit). x .config .sampled) e
+  region-one (suc (suc (suc (suc (suc (suc (suc (suc (suc (suc (suc zero))))))))))) = words-one _ _ (long-u 11 (lit< tt) ∙ sym (long-v 11 (lit< tt))) (chars-u 11) (chars-v 11) (ap (λ (x : Unit). x .config .windows) e)
+  region-one (suc (suc (suc (suc (suc (suc (suc (suc (suc (suc (suc (suc zero)))))))))))) = words-one _ _ (long-u 12 (lit< tt) ∙ sym (long-v 12 (lit< tt))) (chars-u 12) (chars-v 12) (ap (λ (x : Unit). x .numbers) e)
+  region-one (suc (suc (suc (suc (suc (suc (suc (suc (suc (suc (suc (suc (suc zero))))))))))))) = words-one _ _ (long-u 13 (lit< tt) ∙ sym (long-v 13 (lit< tt))) (chars-u 13) (chars-v 13) (ap (λ (x : Unit). x .words) e)
+  region-one (suc (suc (suc (suc (suc (suc (suc (suc (suc (suc (suc (suc (suc (suc zero)))))))))))))) = values-one 128 _ _ (long-u 14 (lit< tt)) (long-v 14 (lit< tt)) (chars-u 14) (chars-v 14) (ap (λ (x : Unit). x .values) e)
+  region-one (suc (suc (suc (suc (suc (suc (suc (suc (suc (suc (suc (suc (suc (suc (suc zero))))))))))))))) = ap (λ (x : Unit). x .fixed) e
+  region-one (suc (suc (suc (suc (suc (suc (suc (suc (suc (suc (suc (suc (suc (suc (suc (suc zero)))))))))))))))) = ap (λ (x : Unit). x .counts) e
+  region-one (suc (suc (suc (suc (suc (suc (suc (suc (suc (suc (suc (suc (suc (suc (suc (suc (suc zero))))))))))))))))) = words-one _ _ (long-u 17 (lit< tt) ∙ sym (long-v 17 (lit< tt))) (chars-u 17) (chars-v 17) (ap (λ (x : Unit). x .dropped) e)
+  region-one (suc (suc (suc (suc (suc (suc (suc (suc (suc (suc (suc (suc (suc (suc (suc (suc (suc (suc zero)))))))))))))))))) = ap (λ (x : Unit). x .changed) e
+  region-one (suc (suc (suc (suc (suc (suc (suc (suc (suc (suc (suc (suc (suc (suc (suc (suc (suc (suc (suc zero))))))))))))))))))) = words-one _ _ (long-u 19 (lit< tt) ∙ sym (long-v 19 (lit< tt))) (chars-u 19) (chars-v 19) (ap (λ (x : Unit). x .taken) e)
+  region-one (suc (suc (suc (suc (suc (suc (suc (suc (suc (suc (suc (suc (suc (suc (suc (suc (suc (suc (suc (suc j)))))))))))))))))))) = refl
 
   pub unit-one : u ≡ v
   unit-one = regions-one unitSizes u v l m region-one

@@ -4,11 +4,13 @@ use mathlib.Core.List.{List, [], map}
 use mathlib.Core.Bool.{Bool, _&&_}
 use lib.ListN.{getD, replicate}
 use lib.Dec.{eqb, leb, ltb}
+use Rattle.chars.specs.Gather.{upFrom, every}
+use Rattle.model.specs.Limits.{mostMeans}
 use Rattle.model.specs.Clock.{clockFits}
-use Rattle.model.specs.Config.{Config, hasFile, noneIn}
+use Rattle.model.specs.Config.{Config, hasFile, noneIn, meansValid}
 use Rattle.model.specs.History.{mostOf}
 use Rattle.model.specs.State.{Files, State}
-use Rattle.model.specs.Fits.{fits, holdFits, writeFits, givable, memoryFits, portFits}
+use Rattle.model.specs.Fits.{fits, holdFits, writeFits, givable, memoryFits, portFits, samplesFit}
 use Rattle.layout.specs.Numbers.{
   holdNumbers,
   writeNumbers,
@@ -41,27 +43,31 @@ use Rattle.model.specs.declared.Port.{Port}
 unfoldable pub filesBy : List ℕ → Files
 filesBy counts = map (λ n. replicate n []) counts
 
--- a kept state with a block of that length and as many records as counted: what else it holds, fits never asks
-unfoldable pub keptBy : ℕ → List ℕ → Core → Memory → Port → State
-keptBy lent counts core memory port =
+-- samples of means, as many as counted
+unfoldable pub samplesBy : List ℕ → List (List ℕ)
+samplesBy taken = map (λ n. replicate n 0) taken
+
+-- a kept state with a block of that length and as many records and samples as counted: what else it holds, fits never asks
+unfoldable pub keptBy : ℕ → List ℕ → List ℕ → Core → Memory → Port → State
+keptBy lent counts taken core memory port =
     record {
       inner = record {
         core = core;
-        areas = record { words = []; values = []; fixed = []; block = replicate lent 0; changed = [] };
+        areas = record { words = []; values = []; fixed = []; block = replicate lent 0; changed = []; samples = samplesBy taken };
         history = record { memory = memory; files = filesBy counts; dropped = [] };
       };
       port = port;
     }
 
--- fits, of a unit of which only the length of the block and the numbers of records are at hand
-unfoldable pub fitsBy : Config → ℕ → List ℕ → Core → Memory → Port → Bool
-fitsBy c lent counts core memory port = fits c (keptBy lent counts core memory port)
+-- fits, of a unit of which only the length of the block and the numbers of records and samples are at hand
+unfoldable pub fitsBy : Config → ℕ → List ℕ → List ℕ → Core → Memory → Port → Bool
+fitsBy c lent counts taken core memory port = fits c (keptBy lent counts taken core memory port)
 
 -- the same of a unit's memory, with the room that is lent for records: of this layout, enough room, and numbers of a unit, which fits
 unfoldable pub fitsIn : List ℕ → ℕ → ℕ → Bool
 fitsIn u lent room =
     eqb (unitIn u .layout) layoutNumber && (leb (roomOf (configIn u)) room
-    && (readable (unitIn u .numbers) && fitsBy (configIn u) lent (unitIn u .counts)
+    && (readable (unitIn u .numbers) && fitsBy (configIn u) lent (unitIn u .counts) (unitIn u .taken)
     (coreIn (unitIn u .numbers)) (memoryIn (unitIn u .numbers)) (portIn (unitIn u .numbers))))
 
 -- ---- the same part by part: numbers that a unit writes for what they mean, which is in range
@@ -100,3 +106,7 @@ unfoldable pub configJudged : Config → ℕ → Bool
 configJudged c lent =
     leb (c .unit) 0x7FE && (leb (c .block) 512 && (eqb lent (c .block)
     && (noneIn (c .inputs) 0x20 16 && (noneIn (c .inputs) 0x60 32 && noneIn (c .calculations) 0x80 128))))
+
+-- means that are valid, with no more samples than each is over
+unfoldable pub meansJudged : Config → List ℕ → Bool
+meansJudged c taken = meansValid c && every (samplesFit c (samplesBy taken)) (upFrom 0 mostMeans)

@@ -10,7 +10,7 @@ use Rattle.model.specs.State.{Areas, Files, History, Inner, State}
 use Rattle.model.specs.declared.Core.{Core}
 use Rattle.model.specs.declared.Memory.{Memory}
 use Rattle.model.specs.declared.Port.{Port}
-use Rattle.layout.specs.Records.{Layout, packed, filesLaid, filesIn, roomOf}
+use Rattle.layout.specs.Records.{Layout, packed, filesLaid, filesIn, samplesLaid, roomOf}
 use Rattle.layout.specs.Numbers.{coreIn, memoryIn, portIn, readable}
 use Rattle.layout.specs.Unit.{Unit, layoutNumber, unitIn, configIn, numbersIn}
 
@@ -26,9 +26,10 @@ pub record Kept : Type 0 where
   pub counts : List ℕ
   pub dropped : List ℕ
   pub changed : List ℕ
+  pub taken : List ℕ
 
-abbrev pub keptOf : Core → Memory → Port → List ℕ → List ℕ → List ℕ → List ℕ → List ℕ → List ℕ → List ℕ → List ℕ → Kept
-keptOf core memory port words results fixed block area counts dropped changed =
+abbrev pub keptOf : Core → Memory → Port → List ℕ → List ℕ → List ℕ → List ℕ → List ℕ → List ℕ → List ℕ → List ℕ → List ℕ → Kept
+keptOf core memory port words results fixed block area counts dropped changed taken =
     record {
       core = core;
       memory = memory;
@@ -41,19 +42,20 @@ keptOf core memory port words results fixed block area counts dropped changed =
       counts = counts;
       dropped = dropped;
       changed = changed;
+      taken = taken;
     }
 
-abbrev pub areasOf : List ℕ → List ℕ → List ℕ → List ℕ → List ℕ → Areas
-areasOf words results fixed block changed = record { words = words; values = results; fixed = fixed; block = block; changed = changed }
+abbrev pub areasOf : List ℕ → List ℕ → List ℕ → List ℕ → List ℕ → List (List ℕ) → Areas
+areasOf words results fixed block changed samples = record { words = words; values = results; fixed = fixed; block = block; changed = changed; samples = samples }
 
 abbrev pub innerOf : Core → Areas → Memory → Files → List ℕ → Inner
 innerOf core areas memory fs dropped = record { core = core; areas = areas; history = record { memory = memory; files = fs; dropped = dropped } }
 
--- the records of the files are those that stand in the lent characters, as a layout has them
+-- the records of the files and the samples of the means are those that stand in the lent characters, as a layout has them
 abbrev pub stateLaid : Layout → Config → Kept → State
 stateLaid l c k =
     record {
-      inner = innerOf (k .core) (areasOf (k .words) (k .results) (k .fixed) (k .block) (k .changed)) (k .memory) (filesLaid l (c .values) (k .area) (k .counts)) (k .dropped);
+      inner = innerOf (k .core) (areasOf (k .words) (k .results) (k .fixed) (k .block) (k .changed) (samplesLaid l (k .area) (k .taken))) (k .memory) (filesLaid l (c .values) (k .area) (k .counts)) (k .dropped);
       port = k .port;
     }
 
@@ -62,12 +64,16 @@ stateOf c k = stateLaid (packed c) c k
 
 -- ---- what is lent
 
--- the areas of a unit's memory and its parameter block
-abbrev pub areasBy : Unit → List ℕ → Areas
-areasBy x block = areasOf (x .words) (x .values) (x .fixed) block (x .changed)
+-- the areas of a unit's memory, its parameter block and samples
+abbrev pub areasBy : Unit → List ℕ → List (List ℕ) → Areas
+areasBy x block ss = areasOf (x .words) (x .values) (x .fixed) block (x .changed) ss
 
-abbrev pub areasIn : List ℕ → List ℕ → Areas
-areasIn u block = areasBy (unitIn u) block
+abbrev pub areasIn : List ℕ → List ℕ → List (List ℕ) → Areas
+areasIn u block ss = areasBy (unitIn u) block ss
+
+-- the samples in the lent characters
+abbrev pub samplesHeld : List ℕ → List ℕ → List (List ℕ)
+samplesHeld u area = samplesLaid (packed (configIn u)) area (unitIn u .taken)
 
 -- the records in the lent characters
 abbrev pub filesHeld : List ℕ → List ℕ → Files
@@ -77,12 +83,12 @@ filesHeld u area = filesIn (configIn u) area (unitIn u .counts)
 abbrev pub historyIn : List ℕ → List ℕ → History
 historyIn u area = record { memory = memoryIn (numbersIn u); files = filesHeld u area; dropped = unitIn u .dropped }
 
--- all that is kept but the port: the memory, the parameter block, and the records or the characters of records
-abbrev pub innerBy : List ℕ → List ℕ → Files → Inner
-innerBy u block fs = innerOf (coreIn (numbersIn u)) (areasIn u block) (memoryIn (numbersIn u)) fs (unitIn u .dropped)
+-- all that is kept but the port: the memory, the parameter block, and samples and records or the characters of these
+abbrev pub innerBy : List ℕ → List ℕ → List (List ℕ) → Files → Inner
+innerBy u block ss fs = innerOf (coreIn (numbersIn u)) (areasIn u block ss) (memoryIn (numbersIn u)) fs (unitIn u .dropped)
 
 abbrev pub innerIn : List ℕ → List ℕ → List ℕ → Inner
-innerIn u block area = innerBy u block (filesHeld u area)
+innerIn u block area = innerBy u block (samplesHeld u area) (filesHeld u area)
 
 -- all of a unit that its caller owns
 pub record Owned : Type 0 where
@@ -95,13 +101,13 @@ ownedOf unit block area = record { unit = unit; block = block; area = area }
 
 -- the unit that it means
 abbrev pub keptBy : Core → Memory → Port → Unit → List ℕ → List ℕ → Kept
-keptBy core memory port x block area = keptOf core memory port (x .words) (x .values) (x .fixed) block area (x .counts) (x .dropped) (x .changed)
+keptBy core memory port x block area = keptOf core memory port (x .words) (x .values) (x .fixed) block area (x .counts) (x .dropped) (x .changed) (x .taken)
 
 abbrev pub keptIn : Owned → Kept
 keptIn x =
     keptBy (coreIn (numbersIn (x .unit))) (memoryIn (numbersIn (x .unit))) (portIn (numbersIn (x .unit))) (unitIn (x .unit)) (x .block) (x .area)
 
--- a memory of this layout, room for records as long as the configuration asks, and numbers such as a unit writes
+-- a memory of this layout, room for records and samples as long as the configuration asks, and numbers such as a unit writes
 unfoldable pub standing : Owned → Bool
 standing x = eqb (unitIn (x .unit) .layout) layoutNumber && (leb (roomOf (configIn (x .unit))) (length (x .area)) && readable (numbersIn (x .unit)))
 

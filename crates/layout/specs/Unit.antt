@@ -14,14 +14,16 @@ use Rattle.layout.specs.Regions.{startIn, regionIn}
 -- ---- the regions, in their order, with their sizes
 
 -- the configuration: unit number and length of the parameter block, the equipped inputs, outputs, calculations and files, the
--- values of a file's records, the files that keep the oldest
+-- values of a file's records, the files that keep the oldest, the calculation numbers of the means, their analogs, and over how many samples
+-- each is
 abbrev pub configSizes : List ℕ
-configSizes = 2 ∷ 2 ∷ 256 ∷ 256 ∷ 256 ∷ 32 ∷ 32 ∷ 32 ∷ []
+configSizes = 2 ∷ 2 ∷ 256 ∷ 256 ∷ 256 ∷ 32 ∷ 32 ∷ 32 ∷ 16 ∷ 16 ∷ 32 ∷ []
 
 -- what a unit keeps: the numbers of clock, select, write, status, latest history reply and port, the input words, the calculation
--- values, the fixed blocks, the record counts, the numbers of dropped records, the contacts that changed
+-- values, the fixed blocks, the record counts, the numbers of dropped records, the contacts that changed, how many
+-- samples of each mean are in
 abbrev pub keptSizes : List ℕ
-keptSizes = 52 ∷ 512 ∷ 512 ∷ 528 ∷ 32 ∷ 64 ∷ 32 ∷ []
+keptSizes = 52 ∷ 512 ∷ 512 ∷ 528 ∷ 32 ∷ 64 ∷ 32 ∷ 32 ∷ []
 
 -- first the number of this layout, so that a memory of another is never misread
 unfoldable pub unitSizes : List ℕ
@@ -54,26 +56,38 @@ valuesRegion = 7
 abbrev pub oldestRegion : ℕ
 oldestRegion = 8
 
+abbrev pub meansRegion : ℕ
+meansRegion = 9
+
+abbrev pub sampledRegion : ℕ
+sampledRegion = 10
+
+abbrev pub windowsRegion : ℕ
+windowsRegion = 11
+
 abbrev pub numbersRegion : ℕ
-numbersRegion = 9
+numbersRegion = 12
 
 abbrev pub wordsRegion : ℕ
-wordsRegion = 10
+wordsRegion = 13
 
 abbrev pub resultsRegion : ℕ
-resultsRegion = 11
+resultsRegion = 14
 
 abbrev pub fixedRegion : ℕ
-fixedRegion = 12
+fixedRegion = 15
 
 abbrev pub countsRegion : ℕ
-countsRegion = 13
+countsRegion = 16
 
 abbrev pub droppedRegion : ℕ
-droppedRegion = 14
+droppedRegion = 17
 
 abbrev pub changedRegion : ℕ
-changedRegion = 15
+changedRegion = 18
+
+abbrev pub takenRegion : ℕ
+takenRegion = 19
 
 -- where a region of a unit starts
 abbrev pub regionStart : ℕ → ℕ
@@ -89,7 +103,7 @@ configLong = startIn configSizes (length configSizes)
 
 -- the number of this layout
 abbrev pub layoutNumber : ℕ
-layoutNumber = 4
+layoutNumber = 5
 
 unfoldable pub placesOf : Places
 placesOf =
@@ -103,6 +117,9 @@ placesOf =
       files = regionStart filesRegion;
       values = regionStart valuesRegion;
       oldest = regionStart oldestRegion;
+      means = regionStart meansRegion;
+      sampled = regionStart sampledRegion;
+      windows = regionStart windowsRegion;
       numbers = regionStart numbersRegion;
       words = regionStart wordsRegion;
       results = regionStart resultsRegion;
@@ -110,6 +127,7 @@ placesOf =
       counts = regionStart countsRegion;
       dropped = regionStart droppedRegion;
       changed = regionStart changedRegion;
+      taken = regionStart takenRegion;
       config = configLong;
       unit = unitLong;
       current = layoutNumber;
@@ -143,6 +161,7 @@ pub record Unit : Type 0 where
   pub counts : List ℕ
   pub dropped : List ℕ
   pub changed : List ℕ
+  pub taken : List ℕ
 
 unfoldable pub configFrom : (ℕ → List ℕ) → Config
 configFrom r =
@@ -155,6 +174,9 @@ configFrom r =
       values = r valuesRegion;
       oldest = r oldestRegion;
       block = wordAt (r lengthRegion) 0;
+      means = r meansRegion;
+      sampled = r sampledRegion;
+      windows = wordsIn (r windowsRegion);
     }
 
 unfoldable pub unitFrom : (ℕ → List ℕ) → Unit
@@ -169,6 +191,7 @@ unitFrom r =
       counts = r countsRegion;
       dropped = wordsIn (r droppedRegion);
       changed = r changedRegion;
+      taken = wordsIn (r takenRegion);
     }
 
 abbrev pub unitIn : List ℕ → Unit
@@ -180,27 +203,31 @@ configIn u = unitIn u .config
 -- ---- a part anew
 
 abbrev pub setNumbers : Unit → List ℕ → Unit
-setNumbers x ks = record { layout = x .layout; config = x .config; numbers = ks; words = x .words; values = x .values; fixed = x .fixed; counts = x .counts; dropped = x .dropped; changed = x .changed }
+setNumbers x ks = record { layout = x .layout; config = x .config; numbers = ks; words = x .words; values = x .values; fixed = x .fixed; counts = x .counts; dropped = x .dropped; changed = x .changed; taken = x .taken }
 
 abbrev pub setWords : Unit → List ℕ → Unit
-setWords x ws = record { layout = x .layout; config = x .config; numbers = x .numbers; words = ws; values = x .values; fixed = x .fixed; counts = x .counts; dropped = x .dropped; changed = x .changed }
+setWords x ws = record { layout = x .layout; config = x .config; numbers = x .numbers; words = ws; values = x .values; fixed = x .fixed; counts = x .counts; dropped = x .dropped; changed = x .changed; taken = x .taken }
 
 abbrev pub setValues : Unit → List ℕ → Unit
-setValues x vs = record { layout = x .layout; config = x .config; numbers = x .numbers; words = x .words; values = vs; fixed = x .fixed; counts = x .counts; dropped = x .dropped; changed = x .changed }
+setValues x vs = record { layout = x .layout; config = x .config; numbers = x .numbers; words = x .words; values = vs; fixed = x .fixed; counts = x .counts; dropped = x .dropped; changed = x .changed; taken = x .taken }
 
 abbrev pub setFixed : Unit → List ℕ → Unit
-setFixed x fs = record { layout = x .layout; config = x .config; numbers = x .numbers; words = x .words; values = x .values; fixed = fs; counts = x .counts; dropped = x .dropped; changed = x .changed }
+setFixed x fs = record { layout = x .layout; config = x .config; numbers = x .numbers; words = x .words; values = x .values; fixed = fs; counts = x .counts; dropped = x .dropped; changed = x .changed; taken = x .taken }
 
 abbrev pub setCounts : Unit → List ℕ → Unit
-setCounts x ns = record { layout = x .layout; config = x .config; numbers = x .numbers; words = x .words; values = x .values; fixed = x .fixed; counts = ns; dropped = x .dropped; changed = x .changed }
+setCounts x ns = record { layout = x .layout; config = x .config; numbers = x .numbers; words = x .words; values = x .values; fixed = x .fixed; counts = ns; dropped = x .dropped; changed = x .changed; taken = x .taken }
 
 abbrev pub setDropped : Unit → List ℕ → Unit
 setDropped x ns =
-    record { layout = x .layout; config = x .config; numbers = x .numbers; words = x .words; values = x .values; fixed = x .fixed; counts = x .counts; dropped = ns; changed = x .changed }
+    record { layout = x .layout; config = x .config; numbers = x .numbers; words = x .words; values = x .values; fixed = x .fixed; counts = x .counts; dropped = ns; changed = x .changed; taken = x .taken }
 
 abbrev pub setChanged : Unit → List ℕ → Unit
 setChanged x bs =
-    record { layout = x .layout; config = x .config; numbers = x .numbers; words = x .words; values = x .values; fixed = x .fixed; counts = x .counts; dropped = x .dropped; changed = bs }
+    record { layout = x .layout; config = x .config; numbers = x .numbers; words = x .words; values = x .values; fixed = x .fixed; counts = x .counts; dropped = x .dropped; changed = bs; taken = x .taken }
+
+abbrev pub setTaken : Unit → List ℕ → Unit
+setTaken x ns =
+    record { layout = x .layout; config = x .config; numbers = x .numbers; words = x .words; values = x .values; fixed = x .fixed; counts = x .counts; dropped = x .dropped; changed = x .changed; taken = ns }
 
 -- the words and the contacts that changed
 abbrev pub setContacts : Unit → List ℕ → List ℕ → Unit
@@ -236,6 +263,9 @@ putDropped u f n = putIn u droppedRegion (2 * f) (word n)
 
 abbrev pub putChanged : List ℕ → ℕ → ℕ → List ℕ
 putChanged u g b = putIn u changedRegion g (b ∷ [])
+
+abbrev pub putTaken : List ℕ → ℕ → ℕ → List ℕ
+putTaken u p n = putIn u takenRegion (2 * p) (word n)
 
 -- the kept numbers
 abbrev pub numbersIn : List ℕ → List ℕ
@@ -281,4 +311,5 @@ blankOf c =
       counts = replicate 32 0;
       dropped = replicate 32 0;
       changed = replicate 32 0;
+      taken = replicate 16 0;
     }

@@ -6,6 +6,7 @@ mod core;
 mod equipment;
 mod files;
 mod judged;
+mod means;
 mod memory;
 mod numbers;
 mod parts;
@@ -38,6 +39,13 @@ pub use files::put_count;
 pub use files::put_dropped;
 pub use files::values_of;
 pub use judged::fits;
+pub use means::analog_of;
+pub use means::equipped_now;
+pub use means::place_of;
+pub use means::put_taken;
+pub use means::taken_of;
+pub use means::window_of;
+pub use means::window_start;
 pub use memory::dump_most;
 pub use memory::keep_memory;
 pub use memory::memory_in;
@@ -70,7 +78,7 @@ ghost use Rattle.layout.specs.Unit.{placesOf};
 // The number of this layout.
 const LAYOUT: usize = 0;
 
-pub const CURRENT: u16 = 4;
+pub const CURRENT: u16 = 5;
 
 // The configuration.
 const NUMBER: usize = LAYOUT + 2;
@@ -89,9 +97,15 @@ const VALUES: usize = FILES + 32;
 
 const OLDEST: usize = VALUES + 32;
 
-pub const CONFIG: usize = OLDEST + 32 - NUMBER;
+const MEANS: usize = OLDEST + 32;
 
-// What the unit keeps: 26 numbers, then points, blocks, counts, numbers dropped and contacts that changed.
+const SAMPLED: usize = MEANS + 16;
+
+const WINDOWS: usize = SAMPLED + 16;
+
+pub const CONFIG: usize = WINDOWS + 32 - NUMBER;
+
+// What the unit keeps: 26 numbers, then points, blocks, counts, numbers dropped, contacts that changed and how many samples are in.
 const NUMBERS: usize = NUMBER + CONFIG;
 
 const WORDS: usize = NUMBERS + 52;
@@ -106,7 +120,9 @@ const DROPPED: usize = COUNTS + 32;
 
 const CHANGED: usize = DROPPED + 64;
 
-pub const UNIT: usize = CHANGED + 32;
+const TAKEN: usize = CHANGED + 32;
+
+pub const UNIT: usize = TAKEN + 32;
 
 // Where the regions start, how long a configuration and how long a unit is.
 pub struct Places {
@@ -119,6 +135,9 @@ pub struct Places {
     pub files: usize,
     pub values: usize,
     pub oldest: usize,
+    pub means: usize,
+    pub sampled: usize,
+    pub windows: usize,
     pub numbers: usize,
     pub words: usize,
     pub results: usize,
@@ -126,6 +145,7 @@ pub struct Places {
     pub counts: usize,
     pub dropped: usize,
     pub changed: usize,
+    pub taken: usize,
     pub config: usize,
     pub unit: usize,
     pub current: u16,
@@ -145,6 +165,9 @@ pub fn told() -> Places
         files: FILES,
         values: VALUES,
         oldest: OLDEST,
+        means: MEANS,
+        sampled: SAMPLED,
+        windows: WINDOWS,
         numbers: NUMBERS,
         words: WORDS,
         results: RESULTS,
@@ -152,6 +175,7 @@ pub fn told() -> Places
         counts: COUNTS,
         dropped: DROPPED,
         changed: CHANGED,
+        taken: TAKEN,
         config: CONFIG,
         unit: UNIT,
         current: CURRENT,

@@ -1,4 +1,4 @@
--- Nothing changes the lengths of the areas. Assumes nothing.
+-- What changes the areas leaves their lengths, and only two events leave neither the calculation values nor the samples. Assumes nothing.
 use Prim.Native.Nat.{ℕ, _+_, _/_}
 use mathlib.Core.Path.{_≡_, refl, _∙_}
 use mathlib.Core.List.{List, [], _∷_}
@@ -8,11 +8,10 @@ use lib.Dec.{eqb, ltb}
 use Rattle.chars.proofs.PutLaws.{length-put}
 use Rattle.model.specs.Limits.{mostAsked}
 use Rattle.model.specs.Frame.{Request, masterOf}
-use Rattle.model.specs.Config.{has, within, hasCalculation}
+use Rattle.model.specs.Config.{has, within}
 use Rattle.model.specs.State.{Areas}
 use Rattle.model.specs.Scan.{counts}
 use Rattle.model.specs.Inputs.{Changed, settable, hasAccumulator, setWordOf, pulsesOf, resetCountOf}
-use Rattle.model.specs.Calculations.{setValueOf}
 use Rattle.model.specs.Contacts.{Contacted, contactOf, anew}
 use Rattle.model.specs.Control.{isOf}
 use Rattle.model.specs.Blocks.{Executed, ordinalStart, notExecuted, reaches, executes, executeWhen, executeOf}
@@ -21,12 +20,13 @@ use Rattle.model.specs.declared.Pending.{Pending}
 use Rattle.model.specs.declared.Pending.the-variants.{NoWrite, Waits}
 use Rattle.model.proofs.Conditions.{by-cond}
 
-pub record SameLengths (a b : Areas) : Type 0 where
+pub record LeavesValues (a b : Areas) : Type 0 where
   pub words : length (b .words) ≡ length (a .words)
-  pub values : length (b .values) ≡ length (a .values)
+  pub values : b .values ≡ a .values
   pub fixed : length (b .fixed) ≡ length (a .fixed)
   pub block : length (b .block) ≡ length (a .block)
   pub changed : length (b .changed) ≡ length (a .changed)
+  pub samples : b .samples ≡ a .samples
 
 -- ---- one area
 
@@ -48,10 +48,6 @@ module _ (table xs : List ℕ) where
       by-cond (Long xs) (counts 1 q)
       (λ e. by-cond (Long xs) (hasAccumulator table (getD (q .body) 0 0)) (λ e. length-set xs _ 0) (λ e. refl))
       (λ e. refl)
-
-  pub setValue-long : (n v : ℕ) → length (setValueOf table xs n v .area) ≡ length xs
-  unfolding Long setValueOf
-  setValue-long n v = by-cond (Long xs) (hasCalculation table n) (λ e. length-set xs n v) (λ e. refl)
 
 -- ---- contacts
 

@@ -12,7 +12,7 @@ use Rattle.chars.specs.Gather.{gather, upFrom, every}
 use Rattle.checkword.specs.Check.{bitStep, bitSteps, charStep, checkFrom, checkOf}
 use Rattle.model.specs.Frame.{unitOf, masterOf, whole, checked, frameIn, commands, paired, heardOf, requestIn, withCheck, frameChars, headChars, replyChars}
 use Rattle.model.specs.Outcome.{damaged, replyFunction, answerNumber}
-use Rattle.model.specs.Config.{Config, has, within, twoBit, accumulator, noneIn, fileValid, validOf, hasFile, keepsOldest, hasCalculation, sizeOf}
+use Rattle.model.specs.Config.{Config, has, within, twoBit, accumulator, noneIn, fileValid, windowAt, meanValid, meansValid, validOf, hasFile, keepsOldest, hasCalculation, sizeOf}
 use Rattle.model.specs.State.{
   Areas,
   History,
@@ -31,6 +31,7 @@ use Rattle.model.specs.Change.{applied, droppedAfter, addedBy, changedBy
 use Rattle.model.specs.Scan.{counts, withNoData}
 use Rattle.model.specs.Inputs.{unreserved, chosen, wordOf, inputsOf, hasAccumulator, pulsesOf}
 use Rattle.model.specs.Contacts.{asksFor, groupIn, groupsCarried, anew, unmarked, untallied, areasAnew}
+use Rattle.model.specs.Means.{samplesAt}
 use Rattle.model.specs.Control.{isOf, takes, selectWhen, operateWhen, selectOf, controlOf, operates, breaks, heldAfter}
 use Rattle.model.specs.Blocks.{known, ordinalStart, blockOf, reaches, waitsFor, writeWhen, writeOf, notExecuted, executes, executeWhen, executeOf, dropped, waitsAfter}
 use Rattle.model.specs.Clock.{bcd, fromBcd, digits, clockFits, timeIn, digitsFit, timeFits, setTimeOf, timeOf, clockAt, clockAfter}
@@ -61,6 +62,7 @@ use Rattle.model.specs.Fits.{
   memoryFits,
   fileFits,
   historyFits,
+  samplesFit,
   areasFit,
   portFits,
   fits,
@@ -121,6 +123,9 @@ wider v =
       values = set (replicate 32 0) 0 v;
       oldest = set (replicate 32 0) 0 1;
       block = 0;
+      means = replicate 16 0;
+      sampled = replicate 16 0;
+      windows = replicate 16 0;
     }
 
 -- a good frame of master 1 to unit 1234, and a buffer that is long enough
@@ -321,14 +326,14 @@ unfolding
     table checkCase numbers eachMade eachTold wider asks scan damage writes record16 records16 chars16 setDay acted outcomeOf replyOf clockOf frame benchConfig
     put part word value wordAt gather upFrom bitStep bitSteps charStep checkFrom
     unitOf masterOf whole checked frameIn commands paired heardOf requestIn withCheck frameChars headChars replyChars
-    damaged replyFunction has within accumulator every noneIn fileValid validOf hasFile hasCalculation sizeOf
+    damaged replyFunction has within accumulator every noneIn fileValid windowAt meanValid meansValid validOf hasFile hasCalculation sizeOf
     heldIn storeIn cutIn applied droppedAfter addedBy changedBy freshCore freshAreas freshHistory freshPort freshOf counts withNoData
     unreserved chosen wordOf inputsOf hasAccumulator pulsesOf
     isOf takes selectWhen operateWhen selectOf controlOf operates breaks heldAfter
     known ordinalStart blockOf reaches waitsFor writeWhen writeOf notExecuted executes executeWhen executeOf dropped waitsAfter
     bcd fromBcd digits clockFits timeIn digitsFit timeFits setTimeOf timeOf clockAt clockAfter
     acknowledges dumps fileOf flat historyChars freedFor mostOf toldFrom tellOf historyOf recordChars keepsOldest sparedIn fullAs storedWhen storedAs
-    masterFits holdFits writeFits coreFits givable replyFits memoryFits fileFits historyFits areasFit portFits fits
+    masterFits holdFits writeFits coreFits givable replyFits memoryFits fileFits historyFits samplesAt samplesFit areasFit portFits fits
     controlled timed written executed scanned internalOf otherOf statusOf sentAs answered quiet settled finished alone telling internalStep stepOf
     areasLeft areasAnew groupsCarried asksFor groupIn anew unmarked untallied twoBit served framed broadcastOf broadcastMade followed judged brokenOff coreAfter elapsedMade localMade wordMade notedIn storeMade localOf makeOf
     markNumber portStatus sentChars markAfter silentAfter portHeard portAfter short turnedAway shows moves decided resultOf nextOf afterFrom

@@ -11,10 +11,11 @@ use Rattle.chars.specs.Gather.{gather, upFrom, every}
 use Rattle.checkword.specs.Check.{bitStep, bitSteps, charStep, checkFrom}
 use Rattle.model.specs.Frame.{unitOf, masterOf, whole, checked, frameIn, heardOf, requestIn, withCheck, headChars, replyChars}
 use Rattle.model.specs.Outcome.{damaged, replyFunction}
-use Rattle.model.specs.Config.{has, within, noneIn, fileValid, validOf, hasFile, keepsOldest, sizeOf}
+use Rattle.model.specs.Config.{has, within, noneIn, fileValid, windowAt, meanValid, meansValid, validOf, hasFile, keepsOldest, sizeOf}
 use Rattle.model.specs.State.{heldIn, storeIn, cutIn, freshCore, freshAreas, freshHistory, freshPort, freshOf}
 use Rattle.model.specs.Change.{applied, droppedAfter, addedBy, changedBy}
 use Rattle.model.specs.Scan.{counts}
+use Rattle.model.specs.Means.{samplesAt}
 use Rattle.model.specs.Control.{isOf, breaks}
 use Rattle.model.specs.Blocks.{dropped}
 use Rattle.model.specs.Clock.{bcd, clockFits}
@@ -45,6 +46,7 @@ use Rattle.model.specs.Fits.{
   memoryFits,
   fileFits,
   historyFits,
+  samplesFit,
   areasFit,
   portFits,
   fits,
@@ -136,11 +138,11 @@ pub drops : Drops
 unfolding
     unit stores kept part word wordAt gather upFrom bitStep bitSteps charStep checkFrom
     unitOf masterOf whole checked frameIn heardOf requestIn withCheck headChars replyChars
-    damaged replyFunction has within every noneIn fileValid validOf hasFile sizeOf
+    damaged replyFunction has within every noneIn fileValid windowAt meanValid meansValid validOf hasFile sizeOf
     heldIn storeIn cutIn applied droppedAfter addedBy changedBy freshCore freshAreas freshHistory freshPort freshOf counts isOf breaks dropped
     bcd clockFits
     acknowledges dumps fileOf flat historyChars freedFor mostOf toldFrom tellOf historyOf recordChars keepsOldest sparedIn fullAs storedWhen storedAs
-    masterFits holdFits writeFits coreFits givable replyFits memoryFits fileFits historyFits areasFit portFits fits
+    masterFits holdFits writeFits coreFits givable replyFits memoryFits fileFits historyFits samplesAt samplesFit areasFit portFits fits
     scanned statusOf sentAs answered settled finished telling stepOf areasLeft areasAnew groupsCarried asksFor anew served framed judged notedIn storeMade localOf makeOf
     markNumber portStatus sentChars markAfter portHeard portAfter short turnedAway shows moves decided resultOf nextOf entryOf afterFrom traceFrom
     chunks carried shownFor shownIn shownBy shown latestAfter releasedBy latestFrom releasedFrom wasKept storedLocally storedBy storedIn

@@ -12,7 +12,7 @@ use Rattle.model.specs.Config.{Config, keepsOldest}
 use Rattle.model.specs.State.{State, freshHistory, freshOf}
 use Rattle.model.specs.Fits.{fits}
 use Rattle.model.specs.History.{sparedIn, storedAs}
-use Rattle.model.specs.Event.{Local, setWord, setValue, pulses, store, contact, Event, stretch, elapsed, local}
+use Rattle.model.specs.Event.{Local, setWord, setValue, pulses, store, contact, sample, Event, stretch, elapsed, local}
 use Rattle.model.specs.Step.{storeMade, localOf, makeOf}
 use Rattle.model.specs.Run.{Entry, short, turnedAway, shows, resultOf, nextOf, entryOf, afterFrom, traceFrom, after, trace}
 use Rattle.model.specs.Formed.{Formed}
@@ -155,6 +155,7 @@ module _ (c : Config) (s : State) where
   local-drops (pulses n p) g d = false-true d
   local-drops (contact n x) g d = false-true d
   local-drops (store f e vs) g d = (vs, store-drops (f .0) g vs _ refl d)
+  local-drops (sample n) g d = false-true d
 
   away-drops : (e : Event) (o : Outcome) (g : ℕ) → dropsBy e (Ended o) g ≡ false
   unfolding dropsBy dropsLocally wasSwapped
@@ -165,6 +166,7 @@ module _ (c : Config) (s : State) where
   away-drops (local (pulses n p)) o g = refl
   away-drops (local (contact n x)) o g = refl
   away-drops (local (store f e vs)) o g = refl
+  away-drops (local (sample n)) o g = refl
 
   made-drops : (e : Event) (g : ℕ) → dropsBy e (makeOf c (s .inner) e .answer) g ≡ true → Swaps g
   unfolding dropsBy makeOf

@@ -3,6 +3,8 @@ pub mod Unique
 pub mod FileLaws
 pub mod AreaLaws
 pub mod BitLaws
+pub mod Exact
+pub mod SampleLaws
 pub mod FrameLaws
 pub mod PairLaws
 pub mod Ages
@@ -11,6 +13,7 @@ pub mod Runs
 pub mod Parts
 pub mod PartFits
 pub mod Valid
+pub mod Sampling
 pub mod Shape
 pub mod GroupLaws
 pub mod Tallies

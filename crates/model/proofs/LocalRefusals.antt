@@ -6,15 +6,16 @@ use mathlib.Core.Bool.{true, false, _&&_, true≢false}
 use lib.Dec.{ltb}
 use native.Mathlib.Omega.{arith}
 use Rattle.model.specs.Outcome.{carriedOut, answerNumber}
-use Rattle.model.specs.Config.{Config, has, hasCalculation}
+use Rattle.model.specs.Config.{Config, has, isMean}
 use Rattle.model.specs.State.{Inner}
 use Rattle.model.specs.Change.{applied, droppedAfter, addedBy, changedBy}
 use Rattle.model.specs.Inputs.{settable, hasAccumulator, setWordOf, pulsesOf}
+use Rattle.model.specs.Means.{valueSettable}
 use Rattle.model.specs.Calculations.{setValueOf}
 use Rattle.model.specs.Contacts.{contactOf}
 use Rattle.model.specs.History.{recordChars, storedAs}
-use Rattle.model.specs.Event.{Local, setWord, setValue, pulses, store, contact, Event, stretch, elapsed, local}
-use Rattle.model.specs.Step.{silent, Made, quiet, elapsedMade, localMade, wordMade, valueMade, contactMade, notedIn, storeMade, localOf, makeOf}
+use Rattle.model.specs.Event.{Local, setWord, setValue, pulses, store, contact, sample, Event, stretch, elapsed, local}
+use Rattle.model.specs.Step.{silent, Made, quiet, elapsedMade, localMade, wordMade, valueMade, contactMade, notedIn, storeMade, sampledMade, sampleMade, localOf, makeOf}
 use Rattle.model.specs.Port.{portAfter}
 use Rattle.model.specs.Refusal.{arrives, succeeded, wasFull, refusedLocal, RefusedLocally}
 use Rattle.model.specs.declared.Stored.{Stored}
@@ -44,9 +45,9 @@ module _ (c : Config) (i : Inner) where
   unfolding setWordOf wordMade localMade quiet succeeded carriedOut refusedLocal wasFull portAfter
   set-word-meets n w = by-cond (Meets i (local (setWord n w)) (wordMade i)) (has (c .inputs) (n .0) && settable (n .0)) (λ e. succeeds refl) (λ e. fails refl refl refl (λ p. refl) (omega arith))
 
-  set-value-meets : (n : SpecialCalculation) (v : ℕ) → Meets i (local (setValue n v)) (valueMade i) (setValueOf (c .calculations) (i .areas .values) (n .0) v)
+  set-value-meets : (n : SpecialCalculation) (v : ℕ) → Meets i (local (setValue n v)) (valueMade i) (setValueOf c (i .areas .values) (n .0) v)
   unfolding setValueOf valueMade localMade quiet succeeded carriedOut refusedLocal wasFull portAfter
-  set-value-meets n v = by-cond (Meets i (local (setValue n v)) (valueMade i)) (hasCalculation (c .calculations) (n .0)) (λ e. succeeds refl) (λ e. fails refl refl refl (λ p. refl) (omega arith))
+  set-value-meets n v = by-cond (Meets i (local (setValue n v)) (valueMade i)) (valueSettable c (n .0)) (λ e. succeeds refl) (λ e. fails refl refl refl (λ p. refl) (omega arith))
 
   pulses-meets : (n : Input) (k : ℕ) → Meets i (local (pulses n k)) (wordMade i) (pulsesOf (c .inputs) (i .areas .words) (n .0) k)
   unfolding pulsesOf wordMade localMade quiet succeeded carriedOut refusedLocal wasFull portAfter
@@ -64,6 +65,10 @@ module _ (c : Config) (i : Inner) where
   store-meets f x vs r NotEquipped = fails refl refl refl (λ p. refl) (omega arith)
   store-meets f x vs r WrongValues = fails refl refl refl (λ p. refl) (omega arith)
 
+  sample-meets : (n : SpecialCalculation) → Meets i (local (sample n)) (λ m. m) (sampleMade c i (n .0))
+  unfolding sampleMade sampledMade quiet succeeded carriedOut refusedLocal wasFull portAfter
+  sample-meets n = by-cond (Meets i (local (sample n)) (λ m. m)) (isMean c (n .0)) (λ e. succeeds refl) (λ e. fails refl refl refl (λ p. refl) (omega arith))
+
   each-meets : (e : Local) → Meets i (local e) (localOf c i) e
   unfolding localOf
   each-meets (setWord n w) = record { refuses = set-word-meets n w .refuses }
@@ -72,6 +77,7 @@ module _ (c : Config) (i : Inner) where
   each-meets (contact n s) = record { refuses = contact-meets n s .refuses }
   each-meets (store f x vs) =
       record { refuses = store-meets f x vs (recordChars (record { event = x; clock = i .core .clock }) vs) (storedAs c (i .history) (f .0) vs) .refuses }
+  each-meets (sample n) = record { refuses = sample-meets n .refuses }
 
   -- every event but a stretch
   pub local-meets : (e : Event) → arrives e ≡ false → Meets i e (makeOf c i) e

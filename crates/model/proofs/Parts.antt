@@ -3,70 +3,32 @@ use Prim.Native.Nat.{ℕ}
 use mathlib.Core.Path.{_≡_, refl}
 use mathlib.Core.List.{List, []}
 use mathlib.Core.Bool.{true, _&&_}
-use lib.ListN.{length}
+use lib.ListN.{length, set}
 use lib.Dec.{eqb, ltb}
 use Rattle.chars.specs.Word.{wordAt}
 use Rattle.model.specs.Frame.{Request, unitOf, masterOf, broadcastUnit, frameIn, heardOf, requestIn}
 use Rattle.model.specs.Outcome.{numberOf, answerNumber}
-use Rattle.model.specs.Config.{Config, hasFile}
+use Rattle.model.specs.Config.{Config, hasFile, isMean}
 use Rattle.model.specs.State.{Areas, History, Inner}
 use Rattle.model.specs.Change.{stays, adds, swaps, applied, droppedAfter, addedBy, changedBy}
 use Rattle.model.specs.Scan.{Scan, tells, counts}
 use Rattle.model.specs.Inputs.{Changed, resetCountOf}
 use Rattle.model.specs.Contacts.{Contacted, groupsCarried, areasAnew}
+use Rattle.model.specs.Means.{valueSettable, areasSampled}
+use Rattle.model.specs.Calculations.{setValueOf}
 use Rattle.model.specs.Control.{controlOf, breaks, heldAfter, isOf}
 use Rattle.model.specs.Blocks.{executeOf, writeOf, dropped, waitsAfter}
 use Rattle.model.specs.Clock.{setTimeOf, clockAfter}
 use Rattle.model.specs.History.{Told, acknowledges, fileOf, untold, agrees, againWhen, tellOf, historyOf, recordChars, sparedIn, storedAs}
-use Rattle.model.specs.Event.{Stretch, Local, setWord, setValue, pulses, store, contact, Event, stretch, elapsed, local}
-use Rattle.model.specs.Step.{
-  Step,
-  withWords,
-  scanned,
-  changed,
-  controlled,
-  timed,
-  written,
-  executed,
-  internalOf,
-  returnOf,
-  otherOf,
-  Made,
-  quiet,
-  settled,
-  Stepped,
-  finished,
-  alone,
-  brokenOff,
-  telling,
-  restarted,
-  initialStep,
-  internalStep,
-  stepOf,
-  areasLeft,
-  startedAnew,
-  served,
-  broadcastOf,
-  broadcastMade,
-  framed,
-  judged,
-  coreAfter,
-  elapsedMade,
-  localMade,
-  wordMade,
-  valueMade,
-  contactMade,
-  notedIn,
-  storeMade,
-  localOf,
-  makeOf,
-}
+use Rattle.model.specs.Event.{Stretch, Local, setWord, setValue, pulses, store, contact, sample, Event, stretch, elapsed, local}
+use Rattle.model.specs.Step.{Step, withWords, withValues, scanned, changed, controlled, timed, written, executed, internalOf, returnOf, otherOf, Made, quiet, settled, Stepped, finished, alone, brokenOff, telling, restarted, initialStep, internalStep, stepOf, areasLeft, startedAnew, served, broadcastOf, broadcastMade, framed, judged, coreAfter, elapsedMade, localMade, wordMade, valueMade, contactMade, notedIn, storeMade, sampledMade, sampleMade, localOf, makeOf}
 use Rattle.model.specs.declared.Outcome.{Outcome}
 use Rattle.model.specs.declared.Outcome.the-variants.{OtherUnit, NotWhole, CheckWrong}
 use Rattle.model.specs.declared.Stored.{Stored}
 use Rattle.model.specs.declared.Stored.the-variants.{Kept, Swapped, Full, NotEquipped, WrongValues}
 use Rattle.model.specs.declared.Answer.{Answer}
 use Rattle.model.specs.declared.Answer.the-variants.{Ended}
+use Rattle.model.specs.declared.SpecialCalculation.{SpecialCalculation}
 use Rattle.model.specs.declared.Master.{Master}
 use Rattle.model.specs.declared.Record.{Record}
 use Rattle.model.specs.declared.Clock.{Clock}
@@ -81,7 +43,7 @@ use Rattle.model.proofs.Conditions.{by-cond}
 use Rattle.model.proofs.PairLaws.{by-heard, pair-address}
 use Rattle.model.proofs.Pairs.{by-pair}
 use Rattle.model.proofs.FileLaws.{toldAfter, newTold}
-use Rattle.model.proofs.AreaLaws.{SameLengths, setWord-long, pulses-long, resetCount-long, setValue-long, ContactsLong, contact-long, anew-long, execute-long}
+use Rattle.model.proofs.AreaLaws.{LeavesValues, setWord-long, pulses-long, resetCount-long, ContactsLong, contact-long, anew-long, execute-long}
 
 -- ---- a property, part by part
 
@@ -124,7 +86,9 @@ pub record Lasts (c : Config) (p : Parts) : Type 0 where
   pub no-write : p .write NoWrite
   pub write : (w : Pending) (q : Request) → p .request q → p .write w → p .write (writeOf w q .write)
   pub waits-after : (w : Pending) (ms : ℕ) → p .write w → p .write (waitsAfter w ms)
-  pub lengths : (a b : Areas) → SameLengths a b → p .areas a → p .areas b
+  pub leaves : (a b : Areas) → LeavesValues a b → p .areas a → p .areas b
+  pub valued : (a : Areas) (n : SpecialCalculation) (v : ℕ) → p .event (local (setValue n v)) → valueSettable c (n .0) ≡ true → p .areas a → p .areas (withValues a (set (a .values) (n .0) v))
+  pub sampled : (a : Areas) (n : SpecialCalculation) → p .event (local (sample n)) → isMean c (n .0) ≡ true → p .areas a → p .areas (areasSampled c a (n .0))
   pub told : (h : History) (q : Request) → p .request q → hasFile (c .files) (fileOf q) ≡ true → p .history h
       → p .history (toldAfter h (newTold c h q))
   pub forgotten : (h : History) → p .history h → p .history (changedBy stays Nothing h)
@@ -164,7 +128,7 @@ module _ (c : Config) (p : Parts) (l : Lasts c p) where
       record {
         core = h .core;
         areas = by-cond (p .areas) (eqb (answerNumber (m .answer)) 0)
-            (λ e. l .lengths a _ (record { words = anew-long _ gs (a .words); values = refl; fixed = refl; block = refl; changed = anew-long _ gs (a .changed) }) (h .areas))
+            (λ e. l .leaves a _ (record { words = anew-long _ gs (a .words); values = refl; fixed = refl; block = refl; changed = anew-long _ gs (a .changed); samples = refl }) (h .areas))
             (λ e. h .areas);
         history = h .history;
       }
@@ -181,9 +145,9 @@ module _ (c : Config) (p : Parts) (l : Lasts c p) where
     changed-has : (q : Request) → StepHas p (changed k a (resetCountOf (c .inputs) (a .words) q))
     unfolding changed
     changed-has q =
-        let s : SameLengths a (withWords a (resetCountOf (c .inputs) (a .words) q .area)) =
-        record { words = resetCount-long (c .inputs) (a .words) q; values = refl; fixed = refl; block = refl; changed = refl } in
-        record { core = kh; areas = l .lengths a _ s ah }
+        let s : LeavesValues a (withWords a (resetCountOf (c .inputs) (a .words) q .area)) =
+        record { words = resetCount-long (c .inputs) (a .words) q; values = refl; fixed = refl; block = refl; changed = refl; samples = refl } in
+        record { core = kh; areas = l .leaves a _ s ah }
 
     timed-has : (lag : ℕ) (q : Request) → StepHas p (timed k a (setTimeOf lag (k .clock) q))
     unfolding timed
@@ -202,9 +166,9 @@ module _ (c : Config) (p : Parts) (l : Lasts c p) where
     executed-has q =
         let r = executeOf (k .write) (a .fixed) (a .block) q in
         let e = execute-long (a .fixed) (a .block) (k .write) q in
-        let b : Areas = record { words = a .words; values = a .values; fixed = r .fixed; block = r .block; changed = a .changed } in
-        let s : SameLengths a b = record { words = refl; values = refl; fixed = e .fixed; block = e .block; changed = refl } in
-        record { core = record { clock = kh .clock; hold = kh .hold; write = kh .write }; areas = l .lengths a b s ah }
+        let b : Areas = record { words = a .words; values = a .values; fixed = r .fixed; block = r .block; changed = a .changed; samples = a .samples } in
+        let s : LeavesValues a b = record { words = refl; values = refl; fixed = e .fixed; block = e .block; changed = refl; samples = refl } in
+        record { core = record { clock = kh .clock; hold = kh .hold; write = kh .write }; areas = l .leaves a b s ah }
 
     internal-has : (lag : ℕ) (q : Request) → p .request q → StepHas p (internalOf c k a lag q)
     unfolding internalOf
@@ -346,21 +310,29 @@ module _ (c : Config) (p : Parts) (l : Lasts c p) where
           history = h .history;
         }
 
-    local-has : (o : Outcome) (a : Areas) → SameLengths (i .areas) a → Makes p (localMade i o a)
+    local-has : (o : Outcome) (a : Areas) → LeavesValues (i .areas) a → Makes p (localMade i o a)
     unfolding Makes localMade quiet
-    local-has o a s = record { core = h .core; areas = l .lengths (i .areas) a s (h .areas); history = h .history }
+    local-has o a s = record { core = h .core; areas = l .leaves (i .areas) a s (h .areas); history = h .history }
 
     word-has : (r : Changed) → length (r .area) ≡ length (i .areas .words) → Makes p (wordMade i r)
     unfolding wordMade
-    word-has r e = local-has _ _ (record { words = e; values = refl; fixed = refl; block = refl; changed = refl })
+    word-has r e = local-has _ _ (record { words = e; values = refl; fixed = refl; block = refl; changed = refl; samples = refl })
 
-    value-has : (r : Changed) → length (r .area) ≡ length (i .areas .values) → Makes p (valueMade i r)
-    unfolding valueMade
-    value-has r e = local-has _ _ (record { words = refl; values = e; fixed = refl; block = refl; changed = refl })
+    value-has : (n : SpecialCalculation) (v : ℕ) → p .event (local (setValue n v)) → Makes p (valueMade i (setValueOf c (i .areas .values) (n .0) v))
+    unfolding Makes valueMade localMade quiet setValueOf
+    value-has n v g =
+        by-cond {A = Changed} (λ r. Makes p (valueMade i r)) (valueSettable c (n .0))
+        (λ e. record { core = h .core; areas = l .valued (i .areas) n v g e (h .areas); history = h .history })
+        (λ e. h)
+
+    sample-has : (n : SpecialCalculation) → p .event (local (sample n)) → Makes p (sampleMade c i (n .0))
+    unfolding Makes sampleMade sampledMade quiet
+    sample-has n g =
+        by-cond (Makes p) (isMean c (n .0)) (λ e. record { core = h .core; areas = l .sampled (i .areas) n g e (h .areas); history = h .history }) (λ e. h)
 
     contact-has : (r : Contacted) → ContactsLong (i .areas .words) (i .areas .changed) r → Makes p (contactMade i r)
     unfolding contactMade
-    contact-has r e = local-has _ _ (record { words = e .words; values = refl; fixed = refl; block = refl; changed = e .changed })
+    contact-has r e = local-has _ _ (record { words = e .words; values = refl; fixed = refl; block = refl; changed = e .changed; samples = refl })
 
     store-has : (f : ℕ) (r : Record) (vs : List ℕ) (o : Stored) → storedAs c (i .history) f vs ≡ o → Makes p (storeMade i f (recordChars r vs) o)
     unfolding Makes storeMade notedIn addedBy changedBy applied droppedAfter
@@ -373,19 +345,20 @@ module _ (c : Config) (p : Parts) (l : Lasts c p) where
     store-has f r vs NotEquipped e = h
     store-has f r vs WrongValues e = h
 
-    makes-local : (e : Local) → Makes p (localOf c i e)
+    makes-local : (e : Local) → p .event (local e) → Makes p (localOf c i e)
     unfolding localOf
-    makes-local (setWord n w) = word-has _ (setWord-long (c .inputs) (i .areas .words) (n .0) w)
-    makes-local (setValue n v) = value-has _ (setValue-long (c .calculations) (i .areas .values) (n .0) v)
-    makes-local (pulses n k) = word-has _ (pulses-long (c .inputs) (i .areas .words) (n .0) k)
-    makes-local (contact n s) = contact-has _ (contact-long (c .inputs) (i .areas .words) (i .areas .changed) (n .0) s)
-    makes-local (store f e vs) = store-has (f .0) (record { event = e; clock = i .core .clock }) vs _ refl
+    makes-local (setWord n w) g = word-has _ (setWord-long (c .inputs) (i .areas .words) (n .0) w)
+    makes-local (setValue n v) g = value-has n v g
+    makes-local (pulses n k) g = word-has _ (pulses-long (c .inputs) (i .areas .words) (n .0) k)
+    makes-local (contact n s) g = contact-has _ (contact-long (c .inputs) (i .areas .words) (i .areas .changed) (n .0) s)
+    makes-local (store f e vs) g = store-has (f .0) (record { event = e; clock = i .core .clock }) vs _ refl
+    makes-local (sample n) g = sample-has n g
 
     makes : (e : Event) → p .event e → Makes p (makeOf c i e)
     unfolding makeOf
     makes (stretch s) g = stretch-has i h (s .lag) (s .chars) (λ q. l .heard s q g)
     makes (elapsed ms) g = elapsed-has ms
-    makes (local e) g = makes-local e
+    makes (local e) g = makes-local e g
 
     -- what a unit makes of an event has what the unit had
     pub make-has : (e : Event) → p .event e → InnerHas p (makeOf c i e .inner)

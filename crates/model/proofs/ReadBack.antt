@@ -13,6 +13,7 @@ use Rattle.model.specs.Sound.{Sound}
 use Rattle.model.specs.Outcome.{sendingOf, functionBits, replyFunction}
 use Rattle.model.specs.Config.{Config, within, validOf}
 use Rattle.model.specs.State.{Inner, State}
+use Rattle.model.specs.Means.{equippedNow}
 use Rattle.model.specs.Control.{breaks}
 use Rattle.model.specs.Fits.{masterFits, coreFits, areasFit, portFits, fits}
 use Rattle.model.specs.Event.{Stretch, Event, stretch}
@@ -223,7 +224,7 @@ module _ (c : Config) (s : State) (q : Request) (ok : fits c s ≡ true) (formed
   block-fits : length (i .areas .block) ≤ 512
   unfolding areasFit validOf
   block-fits =
-      omega (arith, eqb-true (length (i .areas .block)) (c .block) areas-fit, leb-true (c .block) 512 (and-left (leb (c .block) 512) _ (and-right (leb (c .unit) 0x7FE) _ valid)))
+      omega (arith, eqb-true (length (i .areas .block)) (c .block) (and-left (eqb (length (i .areas .block)) (c .block)) _ areas-fit), leb-true (c .block) 512 (and-left (leb (c .block) 512) _ (and-right (leb (c .unit) 0x7FE) _ valid)))
 
   unit-fits : c .unit ≤ 0x7FE
   unfolding validOf
@@ -246,7 +247,7 @@ module _ (c : Config) (s : State) (q : Request) (ok : fits c s ≡ true) (formed
       rw (b, unlike q 0x04 (λ k. omega arith), unlike q 0x20 (λ k. omega arith), eq-eqb (q .function) 0x00 e) (inputs-answer (c .inputs) (i .areas .words) q u n e)
   kind-answer lag b (calculations e h) =
       rw (b, unlike q 0x04 (λ k. omega arith), unlike q 0x20 (λ k. omega arith), unlike q 0x00 (λ k. omega arith), eq-eqb (q .function) 0x03 e)
-      (calculations-answer (c .calculations) (i .areas .values) q e h)
+      (calculations-answer (equippedNow c (i .areas .samples)) (i .areas .values) q e h)
   kind-answer lag b (history e l n) = rw (b, eq-eqb (q .function) 0x04 e) (history-answer c valid q e (i .history) (fitting-history c s ok) recorded master-fits l n)
   kind-answer lag b (tables e l n) =
       rw (b, unlike q 0x04 (λ k. omega arith), unlike q 0x20 (λ k. omega arith), unlike q 0x00 (λ k. omega arith), unlike q 0x03 (λ k. omega arith), eq-eqb (q .function) 0x0A e)

@@ -18,6 +18,7 @@ use Rattle.model.specs.Scan.{Scan, refuses, counts, withNoData}
 use Rattle.model.specs.Inputs.{Changed, hasAccumulator, unreserved, inputsOf, resetCountOf}
 use Rattle.model.specs.Tables.{sendable, sendOf, tableScan, tablesOf}
 use Rattle.model.specs.Calculations.{fitting, valueOf, allOf, pairOf, missingOf, askedOf, calculationsOf}
+use Rattle.model.specs.Means.{equippedNow}
 use Rattle.model.specs.Control.{Controlled, isOf, takes, selectWhen, operateWhen, resetWhen, selectOf, controlOf}
 use Rattle.model.specs.Blocks.{reaches, waitsFor, writeWhen, writeOf, notExecuted, executes, executeWhen, executeOf, returned, readOf}
 use Rattle.model.specs.Clock.{Timed, timeFits, setTimeOf, readTimeOf}
@@ -274,7 +275,7 @@ module _ (k : Core) (a : Areas) where
   other-kept c q =
       let P : Step → Type 0 = Kept k a itself in
       by-cond P (eqb (q .function) 0x00) (λ e. kept-step (plain-kept (inputs-plain k a (c .inputs) (a .words) q)))
-      (λ e. by-cond P (eqb (q .function) 0x03) (λ e. kept-step (plain-kept (calculations-plain k a (c .calculations) (a .values) q)))
+      (λ e. by-cond P (eqb (q .function) 0x03) (λ e. kept-step (plain-kept (calculations-plain k a (equippedNow c (a .samples)) (a .values) q)))
       (λ e. by-cond P (eqb (q .function) 0x0A) (λ e. kept-step (plain-kept (tables-plain k a (c .inputs) (a .fixed) (a .words) q)))
       (λ e. by-cond P (eqb (q .function) 0x10) (λ e. kept-step (control-kept (c .outputs) (k .hold) q))
       (λ e. by-cond P (eqb (q .function) 0x28) (λ e. return-kept q)

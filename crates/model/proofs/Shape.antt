@@ -13,12 +13,15 @@ use Rattle.model.specs.Frame.{Request, masterOf}
 use Rattle.model.specs.Config.{Config, hasFile, sizeOf}
 use Rattle.model.specs.State.{Areas, History, State, heldIn, freshAreas, freshHistory, freshOf}
 use Rattle.model.specs.Change.{stays, cuts, adds, swaps, applied, droppedAfter, changedBy}
+use Rattle.model.specs.Means.{valuesAfter, areasSampled}
 use Rattle.model.specs.Control.{isOf}
 use Rattle.model.specs.History.{freedFor, toldFrom, recordChars, sparedIn}
 use Rattle.model.specs.Event.{Event}
 use Rattle.model.specs.Step.{makeOf}
 use Rattle.model.specs.Run.{moves, nextOf, after}
 use Rattle.model.specs.Formed.{AllSized, none, one, Formed}
+use Rattle.model.specs.declared.Sampled.{Sampled}
+use Rattle.model.specs.declared.Sampled.the-variants.{Ready, NotReady}
 use Rattle.model.specs.declared.Master.{Master}
 use Rattle.model.specs.declared.Record.{Record}
 use Rattle.model.specs.declared.Memory.{Memory}
@@ -126,6 +129,17 @@ record AreasFormed (a : Areas) : Type 0 where
   values : length (a .values) ≡ 128
   fixed : length (a .fixed) ≡ 528
   changed : length (a .changed) ≡ 32
+  samples : length (a .samples) ≡ 16
+
+after-long : (vs : List ℕ) (n : ℕ) (s : Sampled) → length (valuesAfter vs n s) ≡ length vs
+unfolding valuesAfter
+after-long vs n (Ready x) = length-set vs n _
+after-long vs n (NotReady m) = refl
+
+sampled-formed : (c : Config) (a : Areas) (n : ℕ) → AreasFormed a → AreasFormed (areasSampled c a n)
+unfolding areasSampled
+sampled-formed c a n h =
+    record { words = h .words; values = after-long (a .values) n _ ∙ h .values; fixed = h .fixed; changed = h .changed; samples = length-set (a .samples) _ _ ∙ h .samples }
 
 abbrev forming : Config → Parts
 forming c =
@@ -151,7 +165,9 @@ forming-lasts c =
       no-write = tt;
       write = λ w q g k. tt;
       waits-after = λ w ms k. tt;
-      lengths = λ a b s h. record { words = s .words ∙ h .words; values = s .values ∙ h .values; fixed = s .fixed ∙ h .fixed; changed = s .changed ∙ h .changed };
+      leaves = λ a b s h. record { words = s .words ∙ h .words; values = ap length (s .values) ∙ h .values; fixed = s .fixed ∙ h .fixed; changed = s .changed ∙ h .changed; samples = ap length (s .samples) ∙ h .samples };
+      valued = λ a n v g e h. record { words = h .words; values = length-set (a .values) (n .0) v ∙ h .values; fixed = h .fixed; changed = h .changed; samples = h .samples };
+      sampled = λ a n g e h. sampled-formed c a (n .0) h;
       told = λ h q g e k. told-formed c h q k;
       forgotten = λ h k. stays-formed c h _ k;
       kept = λ h f r vs e k. taken-formed c h f r vs (stored-kept c h f vs e .taken) k;
@@ -162,7 +178,7 @@ formed-inner : (c : Config) (s : State) → Formed c s → InnerHas (forming c) 
 formed-inner c s f =
     record {
       core = record { clock = tt; hold = tt; write = tt };
-      areas = record { words = f .words; values = f .values; fixed = f .fixed; changed = f .changed };
+      areas = record { words = f .words; values = f .values; fixed = f .fixed; changed = f .changed; samples = f .samples };
       history = record { files = f .files; dropped = f .dropped; records = f .records };
     }
 
@@ -173,6 +189,7 @@ inner-formed c s i =
       values = i .areas .values;
       fixed = i .areas .fixed;
       changed = i .areas .changed;
+      samples = i .areas .samples;
       files = i .history .files;
       dropped = i .history .dropped;
       records = i .history .records;
@@ -186,6 +203,7 @@ fresh-formed c =
       values = refl;
       fixed = refl;
       changed = refl;
+      samples = refl;
       files = refl;
       dropped = refl;
       records = λ f. rw (held-none 32 f) none;

@@ -11,7 +11,7 @@ use Rattle.model.specs.State.{State, freshOf}
 use Rattle.model.specs.Clock.{clockFits, timeChars}
 use Rattle.model.specs.History.{recordChars}
 use Rattle.model.specs.Fits.{portFits, coreFits, areasFit, historyFits, fits}
-use Rattle.model.specs.Event.{Local, setWord, setValue, pulses, store, contact, Event, stretch, elapsed, local}
+use Rattle.model.specs.Event.{Local, setWord, setValue, pulses, store, contact, sample, Event, stretch, elapsed, local}
 use Rattle.model.specs.Run.{resultOf, nextOf, entryOf, traceFrom, after, trace}
 use Rattle.model.specs.Formed.{AllGiven}
 use Rattle.model.specs.Line.{releasedIn, wasKept, storedLocally, storedBy, storedIn, Lot, stands, struck, lotsStored, lotsStanding, ledgerIn}
@@ -70,6 +70,7 @@ stored-locally : (l : Local) (k : Clock) (a : Answer) (g : ℕ) → clockFits k 
 unfolding storedLocally allStamped
 stored-locally (setWord n w) k a g e = refl
 stored-locally (setValue n v) k a g e = refl
+stored-locally (sample n) k a g e = refl
 stored-locally (pulses n p) k a g e = refl
 stored-locally (contact n s) k a g e = refl
 stored-locally (store f x vs) k a g e =

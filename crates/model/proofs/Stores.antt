@@ -10,12 +10,12 @@ use native.Mathlib.Omega.{arith}
 use borrow.Author.Tests.{eqb-true, eqb-false, eq-eqb}
 use Rattle.model.specs.Limits.{mostDropped}
 use Rattle.model.specs.Frame.{heardOf}
-use Rattle.model.specs.Config.{Config, sizeOf}
+use Rattle.model.specs.Config.{Config, sizeOf, isMean}
 use Rattle.model.specs.State.{Files, Inner, heldIn, storeIn}
 use Rattle.model.specs.Change.{adds, swaps, applied, droppedAfter, addedBy, changedBy}
 use Rattle.model.specs.History.{flat, historyChars, recordChars, sparedIn, storedAs}
-use Rattle.model.specs.Event.{Local, setWord, setValue, pulses, store, contact, Event, stretch, elapsed, local}
-use Rattle.model.specs.Step.{Made, quiet, elapsedMade, localMade, wordMade, valueMade, contactMade, storeMade, localOf, makeOf}
+use Rattle.model.specs.Event.{Local, setWord, setValue, pulses, store, contact, sample, Event, stretch, elapsed, local}
+use Rattle.model.specs.Step.{Made, quiet, elapsedMade, localMade, wordMade, valueMade, contactMade, storeMade, sampledMade, sampleMade, localOf, makeOf}
 use Rattle.model.specs.Port.{sentChars}
 use Rattle.model.specs.Formed.{AllSized}
 use Rattle.model.specs.Line.{other, shownBy, Latest, gave, latestAfter, wasKept, storedLocally, storedBy, wasSwapped, dropsLocally, dropsBy, sparedBy}
@@ -28,7 +28,7 @@ use Rattle.model.specs.declared.File.{File}
 use Rattle.model.specs.declared.Mark.{Mark}
 use Rattle.model.specs.declared.Memory.{Memory}
 use Rattle.model.specs.declared.Memory.the-variants.{Nothing, Remembered}
-use Rattle.model.proofs.Conditions.{false-true}
+use Rattle.model.proofs.Conditions.{by-cond, false-true}
 use Rattle.model.proofs.FileLaws.{held-store, held-swap, TakenIn, stored-kept, stored-swapped}
 use Rattle.model.proofs.Shape.{taken-there}
 use Rattle.model.proofs.Releases.{Holds, Matches, counts-on, Moved, shown-else, never, released-other, still, judged-fine}
@@ -148,16 +148,18 @@ module _ (c : Config) (l : Latest) (i : Inner) (mark : Mark) (t : Matches (i .hi
   away-fine o (local (pulses n p)) = still t refl
   away-fine o (local (contact n s)) = still t refl
   away-fine o (local (store f e vs)) = still t refl
+  away-fine o (local (sample n)) = still t refl
 
   module _ (sized : (g : ℕ) → AllSized (sizeOf (c .values) g) (heldIn (i .history .files) g)) (long : length (i .history .files) ≡ 32) (known : length (i .history .dropped) ≡ 32) where
     local-fine : (e : Local) → FineEvent c l i mark (local e) (localOf c i e)
-    unfolding localOf shownBy storedBy storedLocally dropsBy dropsLocally quiet sentChars wordMade valueMade contactMade localMade
+    unfolding localOf shownBy storedBy storedLocally dropsBy dropsLocally quiet sentChars wordMade valueMade contactMade localMade sampledMade sampleMade
     local-fine (setWord n w) = still t refl
     local-fine (setValue n v) = still t refl
     local-fine (pulses n p) = still t refl
     local-fine (contact n s) = still t refl
     local-fine (store f e vs) =
         store-fine f e vs (storedAs c (i .history) (f .0) vs) (λ e. stored-kept c (i .history) (f .0) vs e .taken) (λ e. stored-swapped c (i .history) (f .0) vs e .taken) long known
+    local-fine (sample n) = by-cond (FineEvent c l i mark (local (sample n))) (isMean c (n .0)) (λ e. still t refl) (λ e. still t refl)
 
     pub made-fine : (e : Event) → FineEvent c l i mark e (makeOf c i e)
     unfolding makeOf shownBy storedBy dropsBy quiet sentChars elapsedMade

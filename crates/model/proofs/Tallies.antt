@@ -11,11 +11,12 @@ use borrow.Author.Tests.{eq-eqb, ne-eqb, ltb-true}
 use Rattle.chars.specs.Gather.{gather}
 use Rattle.model.specs.Frame.{Request, unitOf, broadcastUnit, heardOf, requestIn}
 use Rattle.model.specs.Outcome.{numberOf, answerNumber}
-use Rattle.model.specs.Config.{Config, has}
+use Rattle.model.specs.Config.{Config, has, isMean}
 use Rattle.model.specs.State.{Areas, Inner, State, freshAreas, freshOf}
 use Rattle.model.specs.Contacts.{Contacted, contactOf, asksFor, groupsCarried, anew, unmarked, untallied, areasAnew, withContacts}
-use Rattle.model.specs.Event.{Local, setWord, setValue, pulses, store, contact, Event, stretch, elapsed, local}
-use Rattle.model.specs.Step.{Step, withBroadcast, changed, Made, quiet, finished, stepOf, areasLeft, served, broadcastMade, framed, judged, elapsedMade, localMade, wordMade, valueMade, contactMade, storeMade, localOf, makeOf}
+use Rattle.model.specs.Means.{areasSampled}
+use Rattle.model.specs.Event.{Local, setWord, setValue, pulses, store, contact, sample, Event, stretch, elapsed, local}
+use Rattle.model.specs.Step.{Step, withBroadcast, changed, Made, quiet, finished, stepOf, areasLeft, served, broadcastMade, framed, judged, elapsedMade, localMade, wordMade, valueMade, contactMade, storeMade, sampledMade, sampleMade, localOf, makeOf}
 use Rattle.model.specs.Fits.{fits}
 use Rattle.model.specs.Run.{short, turnedAway, shows, moves, resultOf, nextOf, afterFrom, after}
 use Rattle.model.specs.Formed.{Formed}
@@ -147,12 +148,14 @@ module _ (n : ℕ) (small : n < 256) (t : Tally) where
 
     local-after : (l : Local) → length (i .areas .words) ≡ 256 → length (i .areas .changed) ≡ 32
         → Tells (localOf c i l .inner .areas) n (tallyLocally n l (localOf c i l .answer) t)
-    unfolding localOf tallyLocally wordMade valueMade contactMade localMade storeMade quiet ContactAfter
+    unfolding localOf tallyLocally wordMade valueMade contactMade localMade storeMade sampledMade sampleMade areasSampled quiet ContactAfter
     local-after (setWord m w) lw lb = spares-tells n small t (i .areas) _ (spared (i .areas) _ (set-word-spares (c .inputs) (i .areas .words) (m .0) w)) h
     local-after (setValue m v) lw lb = record { state = h .state; mark = h .mark; once = h .once }
     local-after (pulses m p) lw lb = spares-tells n small t (i .areas) _ (spared (i .areas) _ (pulses-spares (c .inputs) (i .areas .words) (m .0) p)) h
     local-after (store f e vs) lw lb = h
     local-after (contact m s) lw lb = contact-after c i h (m .0) s lw lb
+    local-after (sample m) lw lb =
+        by-cond (λ (x : Made). Tells (x .inner .areas) n t) (isMean c (m .0)) (λ e. record { state = h .state; mark = h .mark; once = h .once }) (λ e. h)
 
 -- ---- a run
 
@@ -179,6 +182,7 @@ module _ (n : ℕ) (small : n < 256) (c : Config) where
   away-tally a (local (pulses m p)) o t z = refl
   away-tally a (local (store f x vs)) o t z = refl
   away-tally a (local (contact m s)) o t z = rw z
+  away-tally a (local (sample m)) o t z = refl
 
   next-tells : (s : State) (t : Tally) (e : Event) → Formed c s → Tells (s .inner .areas) n t
       → Tells (nextOf c s e .inner .areas) n (tallyBy c (s .inner .areas) n e (resultOf c s e .answer) t)

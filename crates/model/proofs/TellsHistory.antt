@@ -10,6 +10,7 @@ use lib.Dec.{eqb, leb, ltb}
 use native.Mathlib.Nat.{div-mul-le-self, div-lt-iff-lt-mul, mul-le-mul-right, mul-div-cancel-left}
 use native.Mathlib.Omega.{arith}
 use borrow.Author.Tests.{eqb-true, leb-true, ltb-true, ltb-false, eq-eqb, ne-eqb, le-leb, lt-ltb, not-true}
+use Rattle.chars.specs.Gather.{upFrom, every}
 use Rattle.model.specs.Frame.{Request, masterOf}
 use Rattle.model.specs.Outcome.{sendingOf}
 use Rattle.model.specs.Config.{Config, has, within, noneIn, fileValid, validOf, hasFile, sizeOf}
@@ -61,8 +62,8 @@ module _ (c : Config) (valid : validOf c ≡ true) (f : ℕ) (equipped : hasFile
   unfolding validOf hasFile fileValid within
   values-fit =
       let files =
-      and-right (noneIn (c .calculations) 0x80 128) _ (and-right (noneIn (c .inputs) 0x60 32) _ (and-right (noneIn (c .inputs) 0x20 16) _
-      (and-right (leb (c .block) 512) _ (and-right (leb (c .unit) 0x7FE) _ valid)))) in
+      and-left (every (fileValid c) (upFrom 0 32)) _ (and-right (noneIn (c .calculations) 0x80 128) _ (and-right (noneIn (c .inputs) 0x60 32) _ (and-right (noneIn (c .inputs) 0x20 16) _
+      (and-right (leb (c .block) 512) _ (and-right (leb (c .unit) 0x7FE) _ valid))))) in
       let low : f < 32 = ltb-true f 32 (and-left (ltb f 32) _ equipped) in
       let all : fileValid c f ≡ true = every-upFrom (fileValid c) 0 32 files f (omega arith) (omega arith) in
       or-cases (not (has (c .files) f)) (leb 1 (getD (c .values) f 0) && leb (getD (c .values) f 0) 16) all

@@ -3,12 +3,15 @@ use Prim.Native.Nat.{ℕ}
 use mathlib.Core.Path.{_≡_, refl}
 use mathlib.Core.List.{List, [], _∷_}
 use mathlib.Core.Bool.{true}
-use lib.ListN.{length-replicate}
+use lib.ListN.{length, length-replicate}
+use lib.Dec.{eqb}
 use native.Mathlib.Omega.{arith}
 use borrow.Author.Tests.{leb-true, le-leb, eq-eqb}
+use Rattle.model.specs.Limits.{mostMeans}
 use Rattle.model.specs.Frame.{masterOf}
-use Rattle.model.specs.Config.{Config, validOf, within}
+use Rattle.model.specs.Config.{Config, validOf, within, placeOf}
 use Rattle.model.specs.State.{Areas, State, freshCore, freshAreas, freshHistory, freshPort, freshOf}
+use Rattle.model.specs.Means.{areasSampled}
 use Rattle.model.specs.Clock.{clockFits}
 use Rattle.model.specs.History.{recordChars, sparedIn}
 use Rattle.model.specs.Fits.{masterFits, holdFits, writeFits, coreFits, memoryFits, fileFits, historyFits, areasFit, portFits, fits}
@@ -19,12 +22,13 @@ use Rattle.model.specs.Run.{moves, nextOf, after}
 use Rattle.model.specs.Formed.{Given, AllGiven}
 use Rattle.model.specs.declared.Outcome.{Outcome}
 use Rattle.model.specs.declared.Answer.{Answer}
-use Rattle.model.specs.declared.Answer.the-variants.{Ended, Storing}
+use Rattle.model.specs.declared.Answer.the-variants.{Ended, Storing, Sampling}
 use Rattle.model.specs.declared.Core.{Core}
 use Rattle.model.specs.declared.Port.{Port}
-use Rattle.model.proofs.Conditions.{and-left, and-right, and-both}
+use Rattle.model.proofs.Conditions.{and-left, and-right, and-both, every-upFrom, upFrom-every}
 use Rattle.model.proofs.FileLaws.{held-none, stored-kept, stored-swapped}
-use Rattle.model.proofs.AreaLaws.{SameLengths}
+use Rattle.model.proofs.AreaLaws.{LeavesValues}
+use Rattle.model.proofs.SampleLaws.{taken-fits, none-fits}
 use Rattle.model.proofs.PartFits.{heard-fits, setTime-fits, clockAfter-fits, control-fits, heldAfter-fits, write-fits, waitsAfter-fits, FilesFit, history-fits, told-fits, forgotten-fits, kept-fits, swapped-fits}
 use Rattle.model.proofs.Parts.{Parts, CoreHas, InnerHas, Lasts, make-has}
 use Rattle.model.proofs.Runs.{by-next, by-run}
@@ -40,6 +44,7 @@ pub port-fits : (p : Port) (e : Event) (a : Answer) → portFits p ≡ true → 
 unfolding portFits portAfter silentAfter
 port-fits p (stretch s) (Ended o) h = heard-port p (s .chars) o h
 port-fits p (stretch s) (Storing r) h = h
+port-fits p (stretch s) (Sampling r) h = h
 port-fits p (elapsed ms) a h = omega (arith, le-leb, leb-true)
 port-fits p (local l) a h = h
 
@@ -57,12 +62,19 @@ fitting c =
       event = Given;
     }
 
-lengths-fit : (c : Config) (a b : Areas) → SameLengths a b → areasFit c a ≡ true → areasFit c b ≡ true
+leaves-fit : (c : Config) (a b : Areas) → LeavesValues a b → areasFit c a ≡ true → areasFit c b ≡ true
 unfolding areasFit
-lengths-fit c a b s e = rw (s .block) e
+leaves-fit c a b s e = rw (s .block, s .samples) e
+
+-- a sample adds one, or takes the place of the oldest
+sampled-fit : (c : Config) (a : Areas) (n : ℕ) → areasFit c a ≡ true → areasFit c (areasSampled c a n) ≡ true
+unfolding areasFit areasSampled
+sampled-fit c a n e =
+    and-both (and-left (eqb (length (a .block)) (c .block)) _ e)
+    (upFrom-every _ 0 mostMeans (λ p low high. taken-fits c a (placeOf c n) p (every-upFrom _ 0 mostMeans (and-right (eqb (length (a .block)) (c .block)) _ e) p low high)))
 
 fitting-lasts : (c : Config) → Lasts c (fitting c)
-unfolding holdFits writeFits
+unfolding holdFits writeFits areasFit
 fitting-lasts c =
     record {
       heard = λ s q g e. rw e (heard-fits (s .chars) g);
@@ -74,7 +86,9 @@ fitting-lasts c =
       no-write = refl;
       write = write-fits;
       waits-after = waitsAfter-fits;
-      lengths = lengths-fit c;
+      leaves = leaves-fit c;
+      valued = λ a n v g e h. h;
+      sampled = λ a n g e h. sampled-fit c a (n .0) h;
       told = told-fits c;
       forgotten = forgotten-fits c;
       kept = λ h f r vs e g. let k = stored-kept c h f vs e in kept-fits c h f (recordChars r vs) (k .taken .equipped) (k .room) g;
@@ -126,7 +140,7 @@ unfolding freshOf freshCore freshAreas freshHistory clockFits within holdFits wr
 fresh-inner c =
     record {
       core = record { clock = refl; hold = refl; write = refl };
-      areas = eq-eqb _ _ (length-replicate (c .block) 0);
+      areas = and-both (eq-eqb _ _ (length-replicate (c .block) 0)) (upFrom-every _ 0 mostMeans (λ p low high. none-fits c p));
       history = history-fits c _ _ _ (fresh-files c) refl;
     }
 

@@ -17,15 +17,16 @@ use Rattle.model.specs.Limits.{writeFrame}
 use Rattle.model.specs.Sound.{WholePair}
 use Rattle.model.specs.Frame.{unitOf, masterOf, whole, checked, frameIn, commands, paired, heardOf, requestIn, withCheck, frameChars, headChars, replyChars}
 use Rattle.model.specs.Outcome.{damaged, replyFunction, answerNumber}
-use Rattle.model.specs.Config.{Config, has, within, noneIn, fileValid, validOf, hasFile, keepsOldest, sizeOf}
+use Rattle.model.specs.Config.{Config, has, within, noneIn, fileValid, windowAt, meanValid, meansValid, validOf, hasFile, keepsOldest, sizeOf}
 use Rattle.model.specs.State.{heldIn, storeIn, cutIn, freshCore, freshAreas, freshHistory, freshPort, freshOf}
 use Rattle.model.specs.Change.{applied, droppedAfter, addedBy, changedBy}
 use Rattle.model.specs.Scan.{counts}
+use Rattle.model.specs.Means.{samplesAt}
 use Rattle.model.specs.Control.{isOf, breaks, heldAfter}
 use Rattle.model.specs.Blocks.{dropped, waitsAfter}
 use Rattle.model.specs.Clock.{bcd, clockFits, timeOf, clockAt, clockAfter}
 use Rattle.model.specs.History.{acknowledges, dumps, fileOf, flat, historyChars, freedFor, mostOf, toldFrom, agrees, againWhen, tellOf, historyOf, recordChars, sparedIn, fullAs, storedWhen, storedAs}
-use Rattle.model.specs.Fits.{masterFits, holdFits, writeFits, coreFits, givable, replyFits, memoryFits, fileFits, historyFits, areasFit, portFits, fits}
+use Rattle.model.specs.Fits.{masterFits, holdFits, writeFits, coreFits, givable, replyFits, memoryFits, fileFits, historyFits, samplesFit, areasFit, portFits, fits}
 use Rattle.model.specs.Event.{store, Event, elapsed, local}
 use Rattle.model.specs.Bench.{withRoom, hears}
 use Rattle.model.specs.Contacts.{asksFor, groupsCarried, anew, areasAnew}
@@ -46,7 +47,7 @@ use Rattle.model.proofs.Demand3.{demand-3}
 
 -- unit 1234 with file 0, whose records have one value: 8 characters
 unfoldable pub unit : Config
-unit = record { unit = 1234; inputs = []; outputs = []; calculations = []; files = 1 ∷ []; values = 1 ∷ []; oldest = []; block = 0 }
+unit = record { unit = 1234; inputs = []; outputs = []; calculations = []; files = 1 ∷ []; values = 1 ∷ []; oldest = []; block = 0; means = []; sampled = []; windows = [] }
 
 -- master 1 and master 2 acknowledge and ask for one record of file 0; master 1 asks again without
 abbrev pub one : List ℕ
@@ -104,11 +105,11 @@ pub worked : Worked
 unfolding
     unit numbers part word wordAt gather upFrom bitStep bitSteps charStep checkFrom
     unitOf masterOf whole checked frameIn commands paired heardOf requestIn withCheck frameChars headChars replyChars
-    damaged replyFunction has within every noneIn fileValid validOf hasFile sizeOf
+    damaged replyFunction has within every noneIn fileValid windowAt meanValid meansValid validOf hasFile sizeOf
     heldIn storeIn cutIn applied droppedAfter addedBy changedBy freshCore freshAreas freshHistory freshPort freshOf counts isOf breaks heldAfter dropped waitsAfter
     bcd clockFits timeOf clockAt clockAfter
     acknowledges dumps fileOf flat historyChars freedFor mostOf toldFrom agrees againWhen tellOf historyOf recordChars keepsOldest sparedIn fullAs storedWhen storedAs
-    masterFits holdFits writeFits coreFits givable replyFits memoryFits fileFits historyFits areasFit portFits fits
+    masterFits holdFits writeFits coreFits givable replyFits memoryFits fileFits historyFits samplesAt samplesFit areasFit portFits fits
     scanned statusOf sentAs answered quiet settled finished telling stepOf areasLeft areasAnew groupsCarried asksFor anew served framed judged coreAfter elapsedMade notedIn storeMade localOf makeOf
     markNumber portStatus sentChars markAfter silentAfter portHeard portAfter short turnedAway shows moves decided resultOf nextOf entryOf afterFrom traceFrom
     chunks carried shownFor shownIn shownBy shown latestAfter releasedBy latestFrom releasedFrom wasKept storedLocally storedBy storedIn

@@ -17,6 +17,9 @@ benchConfig =
       values = replicate 32 0;
       oldest = replicate 32 0;
       block = 0;
+      means = replicate 16 0;
+      sampled = replicate 16 0;
+      windows = replicate 16 0;
     }
 
 -- with a buffer that is just long enough, and no lag (Request 2.3)

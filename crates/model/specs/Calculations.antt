@@ -8,8 +8,9 @@ use Rattle.chars.specs.Word.{value}
 use Rattle.chars.specs.Gather.{gather, upFrom}
 use Rattle.model.specs.Limits.{mostData, mostAsked}
 use Rattle.model.specs.Frame.{Request}
-use Rattle.model.specs.Config.{within, hasCalculation}
+use Rattle.model.specs.Config.{Config, within, hasCalculation}
 use Rattle.model.specs.Scan.{Scan, tells, refusesWith, refuses, withNoData}
+use Rattle.model.specs.Means.{valueSettable}
 use Rattle.model.specs.Inputs.{Changed, unchanged, changes}
 use Rattle.model.specs.declared.Outcome.the-variants.{Unknown, WrongCount, NotValid, TooLong}
 
@@ -46,6 +47,6 @@ calculationsOf table values q =
     (cond (eqb (q .command) 0x00) (cond (within 1 mostAsked (length (q .body))) (askedOf table values (q .body)) (refuses WrongCount))
     (refuses Unknown))
 
--- a local event sets a calculation value (Scans 3, 4)
-unfoldable pub setValueOf : List ℕ → List ℕ → ℕ → ℕ → Changed
-setValueOf table values n v = cond (hasCalculation table n) (changes [] (set values n v)) (unchanged NotValid values)
+-- a local event sets a calculation value that is no mean (Scans 3, 4; Request 4.9)
+unfoldable pub setValueOf : Config → List ℕ → ℕ → ℕ → Changed
+setValueOf c values n v = cond (valueSettable c n) (changes [] (set values n v)) (unchanged NotValid values)

@@ -13,13 +13,14 @@ pub record Stretch : Type 0 where
   pub chars : List ℕ
   pub lag : ℕ
 
--- a word set, a calculation value set, pulses counted, a record stored, the state of a contact given (Scans 3; Request 8.1)
+-- a word set, a calculation value set, pulses counted, a record stored, the state of a contact given, a sample taken for a mean (Scans 3; Request 4.3, 8.1)
 pub data Local : Type 0 where
   setWord : Input → ℕ → Local
   setValue : SpecialCalculation → ℕ → Local
   pulses : Input → ℕ → Local
   store : File → ℕ → List ℕ → Local
   contact : Contact → ℕ → Local
+  sample : SpecialCalculation → Local
 
 -- time is in milliseconds (Outcomes 9)
 pub data Event : Type 0 where

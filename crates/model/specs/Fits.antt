@@ -5,9 +5,10 @@ use mathlib.Core.Bool.{Bool, true, false, cond, not, _&&_, _||_}
 use lib.ListN.{length}
 use lib.Dec.{eqb, leb, ltb}
 use Rattle.chars.specs.Gather.{upFrom, every}
-use Rattle.model.specs.Limits.{holdTime, silenceLimit, fileRoom}
-use Rattle.model.specs.Config.{Config, validOf, has, hasFile}
+use Rattle.model.specs.Limits.{holdTime, silenceLimit, fileRoom, mostMeans}
+use Rattle.model.specs.Config.{Config, validOf, has, hasFile, windowAt}
 use Rattle.model.specs.State.{Areas, Files, History, Inner, State, heldIn}
+use Rattle.model.specs.Means.{samplesAt}
 use Rattle.model.specs.Clock.{clockFits}
 use Rattle.model.specs.History.{mostOf}
 use Rattle.model.specs.declared.Master.{Master}
@@ -58,9 +59,13 @@ fileFits c fs f = leb (length (heldIn fs f)) (cond (hasFile (c .files) f) fileRo
 unfoldable pub historyFits : Config → History → Bool
 historyFits c h = every (fileFits c (h .files)) (upFrom 0 32) && memoryFits c (h .files) (h .memory)
 
+-- a mean has at most as many samples as it is over, a place that is not used none (Request 4.2, 4.4)
+unfoldable pub samplesFit : Config → List (List ℕ) → ℕ → Bool
+samplesFit c ss p = leb (length (samplesAt ss p)) (windowAt c p)
+
 -- the parameter block is lent as long as it was configured (Outcomes 5)
 unfoldable pub areasFit : Config → Areas → Bool
-areasFit c a = eqb (length (a .block)) (c .block)
+areasFit c a = eqb (length (a .block)) (c .block) && every (samplesFit c (a .samples)) (upFrom 0 mostMeans)
 
 unfoldable pub portFits : Port → Bool
 portFits p = leb (p .silence) silenceLimit

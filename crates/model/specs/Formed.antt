@@ -24,12 +24,13 @@ pub data AllSized (n : ℕ) : List (List ℕ) → Type 0 where
   none : AllSized n []
   one : {r : List ℕ} {rs : List (List ℕ)} → length r ≡ n → AllSized n rs → AllSized n (r ∷ rs)
 
--- the areas of fixed length, the bits of the 32 groups, the 32 files with their numbers dropped, and each file's records (Scans 2, 18; Write 1; History 1, 3; Request 8.1)
+-- the areas of fixed length, the bits of the 32 groups, the samples of sixteen places, the 32 files with their numbers dropped, and each file's records (Scans 2, 18; Write 1; History 1, 3; Request 4.2, 8.1)
 pub record Formed (c : Config) (s : State) : Type 0 where
   pub words : length (s .inner .areas .words) ≡ 256
   pub values : length (s .inner .areas .values) ≡ 128
   pub fixed : length (s .inner .areas .fixed) ≡ 528
   pub changed : length (s .inner .areas .changed) ≡ 32
+  pub samples : length (s .inner .areas .samples) ≡ 16
   pub files : length (s .inner .history .files) ≡ 32
   pub dropped : length (s .inner .history .dropped) ≡ 32
   pub records : (f : ℕ) → AllSized (sizeOf (c .values) f) (heldIn (s .inner .history .files) f)

@@ -10,6 +10,7 @@ pub mod Scan
 pub mod Inputs
 pub mod Tables
 pub mod Contacts
+pub mod Means
 pub mod Calculations
 pub mod Control
 pub mod Blocks
@@ -23,6 +24,7 @@ pub mod Run
 pub mod Laws
 pub mod Bench
 pub mod Formed
+pub mod Sampled
 pub mod Refusal
 pub mod Lag
 pub mod Line

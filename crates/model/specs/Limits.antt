@@ -1,5 +1,5 @@
 -- The figures that limit things, each once; Tied and src/lib.rt hold them to the constants of the thing they limit (Frames 19).
-use Prim.Native.Nat.{ℕ, _+_, _*_, _-_, _/_}
+use Prim.Native.Nat.{ℕ, _+_, _*_, _-_, _/_, _^_}
 
 -- a master's frame has 8 to 136 characters (Frames 2)
 abbrev pub shortestFrame : ℕ
@@ -64,3 +64,13 @@ mostDropped = 65535
 -- a reply carries at most as many records as are heads in what its data leave behind the quantity (History 8)
 abbrev pub mostCarried : ℕ
 mostCarried = (mostData - 1) / recordHead
+
+-- up to 16 calculations are means, each over 1, 2, 4 up to 256 samples (Request 4.2)
+abbrev pub mostMeans : ℕ
+mostMeans = 16
+
+abbrev pub mostDoublings : ℕ
+mostDoublings = 8
+
+abbrev pub mostSamples : ℕ
+mostSamples = 2 ^ mostDoublings

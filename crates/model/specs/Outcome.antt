@@ -29,7 +29,7 @@ use Rattle.model.specs.declared.Sending.the-variants.{Normal, Nop, Rst, 
 use Rattle.model.specs.declared.Stored.{Stored}
 use Rattle.model.specs.declared.Stored.the-variants.{Kept, Swapped, Full, NotEquipped, WrongValues}
 use Rattle.model.specs.declared.Answer.{Answer}
-use Rattle.model.specs.declared.Answer.the-variants.{Ended, Storing}
+use Rattle.model.specs.declared.Answer.the-variants.{Ended, Storing, Sampling}
 
 -- the number of each outcome (the table's first column)
 abbrev pub numberOf : Outcome → ℕ
@@ -102,7 +102,8 @@ storedNumber Full = 1
 storedNumber NotEquipped = 2
 storedNumber WrongValues = 3
 
--- the number that an event is answered with
+-- the number that an event is answered with; a sample that was taken is carried out (Request 4.7)
 abbrev pub answerNumber : Answer → ℕ
 answerNumber (Ended o) = numberOf o
 answerNumber (Storing s) = storedNumber s
+answerNumber (Sampling s) = 0

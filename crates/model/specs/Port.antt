@@ -11,7 +11,7 @@ use Rattle.model.specs.Event.{Event, stretch, elapsed, local}
 use Rattle.model.specs.Step.{Sent, silent, said, answered}
 use Rattle.model.specs.declared.Outcome.{Outcome}
 use Rattle.model.specs.declared.Answer.{Answer}
-use Rattle.model.specs.declared.Answer.the-variants.{Ended, Storing}
+use Rattle.model.specs.declared.Answer.the-variants.{Ended, Storing, Sampling}
 use Rattle.model.specs.declared.Mark.{Mark}
 use Rattle.model.specs.declared.Mark.the-variants.{Fine, Silent, Damaged}
 use Rattle.model.specs.declared.Port.{Port}
@@ -47,9 +47,10 @@ unfoldable pub portHeard : Port → List ℕ → Outcome → Port
 portHeard p [] o = p
 portHeard p (x ∷ s) o = record { silence = 0; mark = markAfter (p .mark) o }
 
--- the port after an event with this answer; only a local event has one of storing
+-- the port after an event with this answer; only a local event has one of storing or sampling
 unfoldable pub portAfter : Port → Event → Answer → Port
 portAfter p (stretch s) (Ended o) = portHeard p (s .chars) o
 portAfter p (stretch s) (Storing r) = p
+portAfter p (stretch s) (Sampling r) = p
 portAfter p (elapsed ms) a = silentAfter p ms
 portAfter p (local l) a = p

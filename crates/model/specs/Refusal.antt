@@ -15,7 +15,7 @@ use Rattle.model.specs.Port.{portHeard, portAfter}
 use Rattle.model.specs.Run.{resultOf, nextOf}
 use Rattle.model.specs.declared.Outcome.{Outcome}
 use Rattle.model.specs.declared.Answer.{Answer}
-use Rattle.model.specs.declared.Answer.the-variants.{Ended, Storing}
+use Rattle.model.specs.declared.Answer.the-variants.{Ended, Storing, Sampling}
 use Rattle.model.specs.declared.Action.the-variants.{Rest}
 use Rattle.model.specs.declared.Hold.{Hold}
 use Rattle.model.specs.declared.Hold.the-variants.{Free}
@@ -83,10 +83,12 @@ arrives (local l) = false
 unfoldable pub succeeded : Answer → Bool
 succeeded (Ended o) = carriedOut o
 succeeded (Storing r) = eqb (storedNumber r) 0
+succeeded (Sampling r) = true
 
 unfoldable pub wasFull : Answer → Bool
 wasFull (Ended o) = false
 wasFull (Storing r) = eqb (storedNumber r) 1
+wasFull (Sampling r) = false
 
 -- a full file sets bit 3, and else nothing changes (Scans 4; History 5; Frames 10)
 unfoldable pub refusedLocal : Answer → Inner → Inner

@@ -3,6 +3,7 @@ use Prim.Native.Nat.{ℕ, _+_}
 use mathlib.Core.List.{List, [], _∷_, _++_}
 use mathlib.Core.Bool.{true, false}
 use lib.ListN.{getD, set, take, drop, replicate}
+use Rattle.model.specs.Limits.{mostMeans}
 use Rattle.model.specs.Config.{Config}
 use Rattle.model.specs.declared.Core.{Core}
 use Rattle.model.specs.declared.Hold.the-variants.{Free}
@@ -13,13 +14,15 @@ use Rattle.model.specs.declared.Mark.the-variants.{Fine}
 use Rattle.model.specs.declared.Port.{Port}
 
 -- 256 words of inputs, 128 calculation values, the fixed area of 528 characters, the parameter block; for each of the 32 groups of contacts
--- a bit each that changed since the group's last reply (Scans 2, 18; Write 1; Request 8.1)
+-- a bit each that changed since the group's last reply, and for each place of a mean the samples that are in, oldest first (Scans 2, 18;
+-- Write 1; Request 4.3, 4.4, 8.1)
 pub record Areas : Type 0 where
   pub words : List ℕ
   pub values : List ℕ
   pub fixed : List ℕ
   pub block : List ℕ
   pub changed : List ℕ
+  pub samples : List (List ℕ)
 
 -- for each file its records, oldest first (History 4)
 abbrev pub Files : Type 0
@@ -67,7 +70,14 @@ freshCore =
 
 unfoldable pub freshAreas : Config → Areas
 freshAreas c =
-    record { words = replicate 256 0; values = replicate 128 0; fixed = replicate 528 0; block = replicate (c .block) 0; changed = replicate 32 0 }
+    record {
+      words = replicate 256 0;
+      values = replicate 128 0;
+      fixed = replicate 528 0;
+      block = replicate (c .block) 0;
+      changed = replicate 32 0;
+      samples = replicate mostMeans [];
+    }
 
 unfoldable pub freshHistory : History
 freshHistory = record { memory = Nothing; files = replicate 32 []; dropped = replicate 32 0 }

@@ -7,14 +7,15 @@ use lib.Dec.{eqb}
 use Rattle.model.specs.Limits.{writeFrame}
 use Rattle.model.specs.Frame.{Request, unitOf, masterOf, broadcastUnit, heardOf, requestIn}
 use Rattle.model.specs.Outcome.{numberOf, sendingOf, replyFunction, answerNumber}
-use Rattle.model.specs.Config.{Config}
-use Rattle.model.specs.Event.{Local, setWord, setValue, pulses, store, contact, Event, stretch, elapsed, local}
+use Rattle.model.specs.Config.{Config, placeOf, isMean}
+use Rattle.model.specs.Event.{Local, setWord, setValue, pulses, store, contact, sample, Event, stretch, elapsed, local}
 use Rattle.model.specs.State.{Areas, Inner}
-use Rattle.model.specs.Change.{Change, stays, addedBy, changedBy}
+use Rattle.model.specs.Change.{Change, stays, takes, addedBy, changedBy}
 use Rattle.model.specs.Scan.{Scan, tells, refuses, counts}
 use Rattle.model.specs.Inputs.{Changed, inputsOf, setWordOf, pulsesOf, resetCountOf}
 use Rattle.model.specs.Tables.{tablesOf}
 use Rattle.model.specs.Contacts.{Contacted, withContacts, contactOf, groupsCarried, areasAnew}
+use Rattle.model.specs.Means.{equippedNow, takenAt, sampledFor, areasSampled}
 use Rattle.model.specs.Calculations.{calculationsOf, setValueOf}
 use Rattle.model.specs.Control.{Controlled, controlOf, breaks, heldAfter}
 use Rattle.model.specs.Blocks.{WriteResult, Executed, writeOf, executeOf, readOf, dropped, waitsAfter}
@@ -29,6 +30,7 @@ use Rattle.model.specs.declared.Outcome.the-variants.{
   BroadcastDone,
   Unknown,
   WrongCount,
+  NotValid,
   BrokenOff,
   BroadcastRefused,
 }
@@ -37,7 +39,7 @@ use Rattle.model.specs.declared.Sending.the-variants.{Normal, Nop, Rst, 
 use Rattle.model.specs.declared.Stored.{Stored}
 use Rattle.model.specs.declared.Stored.the-variants.{Kept, Swapped, Full, NotEquipped, WrongValues}
 use Rattle.model.specs.declared.Answer.{Answer}
-use Rattle.model.specs.declared.Answer.the-variants.{Ended, Storing}
+use Rattle.model.specs.declared.Answer.the-variants.{Ended, Storing, Sampling}
 use Rattle.model.specs.declared.Action.{Action}
 use Rattle.model.specs.declared.Action.the-variants.{Rest}
 use Rattle.model.specs.declared.Heard.{Heard}
@@ -79,10 +81,10 @@ abbrev pub withBroadcast : Core → Bool → Core
 withBroadcast k b = record { clock = k .clock; hold = k .hold; write = k .write; configure = k .configure; error = k .error; broadcast = b }
 
 abbrev pub withWords : Areas → List ℕ → Areas
-withWords a words = record { words = words; values = a .values; fixed = a .fixed; block = a .block; changed = a .changed }
+withWords a words = record { words = words; values = a .values; fixed = a .fixed; block = a .block; changed = a .changed; samples = a .samples }
 
 abbrev pub withValues : Areas → List ℕ → Areas
-withValues a values = record { words = a .words; values = values; fixed = a .fixed; block = a .block; changed = a .changed }
+withValues a values = record { words = a .words; values = values; fixed = a .fixed; block = a .block; changed = a .changed; samples = a .samples }
 
 unfoldable pub scanned : Core → Areas → Scan → Step
 scanned k a r = record { says = r; action = Rest; core = k; areas = a }
@@ -106,7 +108,7 @@ executed k a r =
       says = r .says;
       action = Rest;
       core = withError (withConfigure k (cond (r .configures) false (k .configure))) (cond (r .clears) false (k .error));
-      areas = record { words = a .words; values = a .values; fixed = r .fixed; block = r .block; changed = a .changed };
+      areas = record { words = a .words; values = a .values; fixed = r .fixed; block = r .block; changed = a .changed; samples = a .samples };
     }
 
 -- ---- the functions that see no history (Covers 1)
@@ -131,7 +133,7 @@ returnOf k a q =
 unfoldable pub otherOf : Config → Core → Areas → Request → Step
 otherOf c k a q =
     cond (eqb (q .function) 0x00) (scanned k a (inputsOf (c .inputs) (a .words) q))
-    (cond (eqb (q .function) 0x03) (scanned k a (calculationsOf (c .calculations) (a .values) q))
+    (cond (eqb (q .function) 0x03) (scanned k a (calculationsOf (equippedNow c (a .samples)) (a .values) q))
     (cond (eqb (q .function) 0x0A) (scanned k a (tablesOf (c .inputs) (a .fixed) (a .words) q))
     (cond (eqb (q .function) 0x10) (controlled k a (controlOf (c .outputs) (k .hold) q))
     (cond (eqb (q .function) 0x28) (returnOf k a q)
@@ -336,13 +338,29 @@ storeMade i f r o =
       change = ch;
     }
 
+-- a sample for calculation number n, which is a mean (Request 4.3)
+unfoldable pub sampledMade : Config → Inner → ℕ → Made
+sampledMade c i n =
+    record {
+      answer = Sampling (sampledFor c (i .areas) n);
+      action = Rest;
+      sent = silent;
+      inner = record { core = i .core; areas = areasSampled c (i .areas) n; history = i .history };
+      change = takes (placeOf c n) (takenAt c (i .areas) (placeOf c n));
+    }
+
+-- any other number is none (Request 4.9)
+unfoldable pub sampleMade : Config → Inner → ℕ → Made
+sampleMade c i n = cond (isMean c n) (sampledMade c i n) (quiet (Ended NotValid) i)
+
 unfoldable pub localOf : Config → Inner → Local → Made
 localOf c i (setWord n w) = wordMade i (setWordOf (c .inputs) (i .areas .words) (n .0) w)
-localOf c i (setValue n v) = valueMade i (setValueOf (c .calculations) (i .areas .values) (n .0) v)
+localOf c i (setValue n v) = valueMade i (setValueOf c (i .areas .values) (n .0) v)
 localOf c i (contact n s) = contactMade i (contactOf (c .inputs) (i .areas .words) (i .areas .changed) (n .0) s)
 localOf c i (pulses n p) = wordMade i (pulsesOf (c .inputs) (i .areas .words) (n .0) p)
 localOf c i (store f e vs) =
     storeMade i (f .0) (recordChars (record { event = e; clock = i .core .clock }) vs) (storedAs c (i .history) (f .0) vs)
+localOf c i (sample n) = sampleMade c i (n .0)
 
 -- what a working unit makes of an event
 unfoldable pub makeOf : Config → Inner → Event → Made

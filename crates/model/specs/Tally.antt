@@ -10,7 +10,7 @@ use Rattle.model.specs.Outcome.{answerNumber}
 use Rattle.model.specs.Config.{Config}
 use Rattle.model.specs.State.{Areas, State, freshOf}
 use Rattle.model.specs.Contacts.{bitIn, groupsCarried}
-use Rattle.model.specs.Event.{Local, setWord, setValue, pulses, store, contact, Event, stretch, elapsed, local}
+use Rattle.model.specs.Event.{Local, setWord, setValue, pulses, store, contact, sample, Event, stretch, elapsed, local}
 use Rattle.model.specs.Run.{resultOf, nextOf}
 use Rattle.model.specs.declared.Answer.{Answer}
 use Rattle.model.specs.declared.Heard.{Heard}
@@ -44,6 +44,7 @@ tallyLocally n (setWord m w) o t = t
 tallyLocally n (setValue m v) o t = t
 tallyLocally n (pulses m p) o t = t
 tallyLocally n (store f e vs) o t = t
+tallyLocally n (sample m) o t = t
 tallyLocally n (contact m s) o t = cond (eqb (answerNumber o) 0 && eqb (m .0) n) (given s t) t
 
 -- the tally of contact n after an event that found these areas and was answered so

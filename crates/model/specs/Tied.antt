@@ -14,6 +14,8 @@ use Rattle.model.specs.Limits.{
   mostDropped,
   recordHead,
   longestRecord,
+  mostMeans,
+  mostSamples,
 }
 use Rattle.model.specs.declared.Limits.{Limits}
 
@@ -34,4 +36,6 @@ limitsTold =
       dropped = mostDropped;
       stamp = recordHead;
       slot = longestRecord;
+      means = mostMeans;
+      samples = mostSamples;
     }

@@ -16,6 +16,14 @@ pub struct ControlOutput(pub u8);
 
 pub struct SpecialCalculation(pub u8);
 
+impl SpecialCalculation {
+    // How many of them may be means.
+    pub const MEANS: usize = 16;
+
+    // Over how many samples a mean is at most.
+    pub const SAMPLES: u16 = 256;
+}
+
 pub struct Master(pub u8);
 
 impl Master {
@@ -159,10 +167,17 @@ pub enum Stored {
     WrongValues,
 }
 
-// How an event ended: all but storing a record by an outcome.
+// What a sample came to: the mean, or how many samples are still missing.
+pub enum Sampled {
+    Ready(f32),
+    NotReady(u16),
+}
+
+// How an event ended: all by an outcome, but storing a record, and a sample that was taken.
 pub enum Answer {
     Ended(Outcome),
     Storing(Stored),
+    Sampling(Sampled),
 }
 
 // How a request ended, and how many characters of data stand in the reply buffer behind the room for its head.
@@ -339,6 +354,8 @@ pub struct Limits {
     pub dropped: u16,
     pub stamp: usize,
     pub slot: usize,
+    pub means: usize,
+    pub samples: u16,
 }
 
 pub fn limits_told() -> Limits
@@ -359,5 +376,7 @@ pub fn limits_told() -> Limits
         dropped: File::DROPPED,
         stamp: Record::HEAD,
         slot: Record::LONGEST,
+        means: SpecialCalculation::MEANS,
+        samples: SpecialCalculation::SAMPLES,
     }
 }

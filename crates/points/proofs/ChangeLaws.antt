@@ -8,9 +8,11 @@ use mathlib.Core.Bool.{true, false, not, and-false}
 use borrow.Author.Tests.{eq-eqb, ne-eqb, lt-ltb, le-ltb}
 use lib.ListN.{length, getD, set}
 use Rattle.model.specs.Frame.{Request}
-use Rattle.model.specs.Config.{has, twoBit, accumulator, hasCalculation}
+use Rattle.model.specs.Config.{has, twoBit, accumulator, hasCalculation, Config, isMean}
 use Rattle.model.specs.Scan.{counts}
 use Rattle.model.specs.Inputs.{changes, unchanged, settable, hasAccumulator, setWordOf, pulsesOf, resetCountOf}
+use Rattle.model.specs.Means.{valueSettable}
+use Rattle.model.proofs.Conditions.{by-bool}
 use Rattle.model.specs.Calculations.{setValueOf}
 use Rattle.model.specs.declared.Outcome.the-variants.{NotValid, WrongCount}
 
@@ -51,12 +53,19 @@ module _ (table words : List ℕ) (n v : ℕ) where
   unfolding pulsesOf
   pulses-missing e = simp e
 
-  pub value-set : hasCalculation table n ≡ true → setValueOf table words n v ≡ changes [] (set words n v)
-  unfolding setValueOf
-  value-set e = simp e
+-- ---- a calculation value
 
-  pub value-missing : hasCalculation table n ≡ false → setValueOf table words n v ≡ unchanged NotValid words
-  unfolding setValueOf
+module _ (c : Config) (values : List ℕ) (n v : ℕ) where
+  pub value-set : hasCalculation (c .calculations) n ≡ true → isMean c n ≡ false → setValueOf c values n v ≡ changes [] (set values n v)
+  unfolding setValueOf valueSettable
+  value-set e m = simp (e, m)
+
+  pub value-mean : isMean c n ≡ true → setValueOf c values n v ≡ unchanged NotValid values
+  unfolding setValueOf valueSettable
+  value-mean m = by-bool (hasCalculation (c .calculations) n) (λ e. simp (e, m)) (λ e. simp e)
+
+  pub value-missing : hasCalculation (c .calculations) n ≡ false → setValueOf c values n v ≡ unchanged NotValid values
+  unfolding setValueOf valueSettable
   value-missing e = simp e
 
 -- ---- 20h/11h

@@ -10,7 +10,7 @@ use lib.Dec.{eqb, ltb, lit<}
 use Rattle.model.proofs.Conditions.{by-bool, by-eqb, and-right}
 use Rattle.model.specs.Outcome.{numberOf}
 use Rattle.model.specs.Frame.{Request}
-use Rattle.model.specs.Config.{has, accumulator, hasCalculation}
+use Rattle.model.specs.Config.{has, accumulator, hasCalculation, isMean}
 use Rattle.model.specs.Scan.{Fills}
 use Rattle.model.specs.Inputs.{Changed, changes, unchanged, settable, hasAccumulator, setWordOf, pulsesOf, resetCountOf}
 use Rattle.model.specs.Calculations.{setValueOf}
@@ -22,7 +22,7 @@ use Rattle.layout.specs.Unit.{Unit, unitSizes, unitLong, inputsRegion, wordsReg
 use Rattle.layout.proofs.UnitLaws.{length-put-in, region-size, word-written, value-written, changed-written}
 use Rattle.points.specs.Answer.{Sets}
 use Rattle.points.proofs.NumberLaws.{has-below, calculation-below}
-use Rattle.points.proofs.ChangeLaws.{word-set, word-other, word-missing, pulses-added, pulses-missing, value-set, value-missing, reset-miscounted, reset-missing, reset-done}
+use Rattle.points.proofs.ChangeLaws.{word-set, word-other, word-missing, pulses-added, pulses-missing, value-set, value-mean, value-missing, reset-miscounted, reset-missing, reset-done}
 
 -- ---- how long the memory is
 
@@ -95,12 +95,14 @@ module _ (u : List ℕ) (long : length u ≡ unitLong) where
         (λ e. word-done n _ [] (input-below n (accumulator-has _ n e)) p (pulses-added _ _ n w e))
         (λ e. words-kept NotValid refl p (pulses-missing _ _ n w e))
 
-    pub set-value-means : Sets (setValueOf (configIn u .calculations) (unitIn u .values) n w) u (putValue u n w) v r
-        → unitIn v ≡ setValues (unitIn u) (setValueOf (configIn u .calculations) (unitIn u .values) n w .area)
+    pub set-value-means : Sets (setValueOf (configIn u) (unitIn u .values) n w) u (putValue u n w) v r
+        → unitIn v ≡ setValues (unitIn u) (setValueOf (configIn u) (unitIn u .values) n w .area)
     set-value-means p =
-        by-bool (hasCalculation (configIn u .calculations) n)
-        (λ e. value-done n w [] (calculation-below _ n e) p (value-set _ _ n w e))
-        (λ e. values-kept NotValid refl p (value-missing _ _ n w e))
+        by-bool (isMean (configIn u) n)
+        (λ m. values-kept NotValid refl p (value-mean _ _ n w m))
+        (λ m. by-bool (hasCalculation (configIn u .calculations) n)
+        (λ e. value-done n w [] (calculation-below _ n e) p (value-set _ _ n w e m))
+        (λ e. values-kept NotValid refl p (value-missing _ _ n w e)))
 
   pub reset-count-means : {v : List ℕ} {r : Outcome} (q : Request)
       → Sets (resetCountOf (configIn u .inputs) (unitIn u .words) q) u (putWord u (getD (q .body) 0 0) 0) v r

@@ -5,6 +5,7 @@ use super::equipment::refused;
 use layout::UNIT;
 use layout::has_calculation;
 use layout::has_input;
+use layout::place_of;
 use layout::put_value;
 use layout::put_word;
 use layout::word_of;
@@ -67,11 +68,15 @@ pub fn pulses(unit: &mut [u8; UNIT], number: Input, count: u16) -> Outcome
     }
 }
 
+// A mean is set by no event but its samples.
 pub fn set_value(unit: &mut [u8; UNIT], number: SpecialCalculation, value: u32) -> Outcome
-    ensures { λ r. ⌜ Sets (setValueOf (configIn (now (unit .entry)) .calculations) (unitIn (now (unit .entry)) .values) (number .0) value)
+    ensures { λ r. ⌜ Sets (setValueOf (configIn (now (unit .entry))) (unitIn (now (unit .entry)) .values) (number .0) value)
         (now (unit .entry)) (putValue (now (unit .entry)) (number .0) value) (now (unit .exit)) r ⌝ }
 {
     if has_calculation(unit, number) {
+        if place_of(unit, number) < SpecialCalculation::MEANS {
+            return Outcome::NotValid;
+        }
         put_value(unit, number, value);
         Outcome::Done
     } else {

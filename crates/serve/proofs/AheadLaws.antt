@@ -28,7 +28,7 @@ use Rattle.layout.specs.Unit.{Renumbered, unitIn, configIn, numbersIn}
 use Rattle.layout.proofs.NumbersLaws.{readable-written, written-readable}
 use Rattle.layout.proofs.PlaceLaws.{write-written}
 use Rattle.layout.proofs.UnitLaws.{numbers-left, numbers-only, numbers-on}
-use Rattle.layout.specs.Kept.{areasIn, filesHeld, innerIn, ownedOf}
+use Rattle.layout.specs.Kept.{samplesHeld, areasIn, filesHeld, innerIn, ownedOf}
 use Rattle.port.specs.Heard.{portHeardBy}
 use Rattle.serve.specs.Promises.{FramedPromise}
 use Rattle.serve.proofs.CommandLaws.{internal-write, acts-written, unshifted-numbers}
@@ -97,10 +97,10 @@ ahead-taken u v w block area entry lag f s {body} r n d function command own b w
     let z = wrote (configIn u) i lag f s n d function command own b writes in
     let only = numbers-on _ _ _ (numbers-only _ _ (kept .0)) (numbers-only _ _ heard) in (
       λ ready stands.
-          let step = acts-written i {a = areasIn u block} {exit = entry} r (write-bare _ q) z writes refl refl (write-written (readable-written _ stands) (numbers-left _ _ (kept .0), kept .1)) refl in
+          let step = acts-written i {a = areasIn u block (samplesHeld u area)} {exit = entry} r (write-bare _ q) z writes refl refl (write-written (readable-written _ stands) (numbers-left _ _ (kept .0), kept .1)) refl in
           let h = rw (taken, n) at (step-heard (length s) step (numbers-left _ _ heard)) in
           let a = acted-still {c = configIn u} {fs = filesHeld u area} {area = area} {held = unitIn u .counts} (alone-stays i _ z) h in
-          makes-renumbered _ u w block only
+          makes-renumbered _ u w block (samplesHeld u area) only
           (framed-own (configIn u) i lag s (portIn (numbersIn u) .mark) (portIn (numbersIn u)) f n d refl own
           (record {
             makes = makes-served (configIn u) i lag q _ long h (a .files) (replies-none entry WriteTaken _ refl) (readable-written _ (written-readable (h .kept))) refl (unfold areasLeft in refl);

@@ -152,7 +152,7 @@ module _ (i : Inner) {m : Stepped} {a : Areas} {p : Port} {ls entry exit : List 
   pub acts-executed : {x : blocks.Executed} {u v bl : List ℕ} (f : Executed) → x .says .chars ≡ [] → m ≡ alone i (executed (i .core) (i .areas) x) → ExecutesAs u x v bl f → exit ≡ entry
       → r ≡ record { outcome = f .outcome; action = Rest; count = 0 }
       → Kept (withError (withConfigure (i .core) (cond (f .configures) false (i .core .configure))) (cond (f .clears) false (i .core .error))) (i .history .memory) p ls
-      → a ≡ record { words = i .areas .words; values = i .areas .values; fixed = x .fixed; block = bl; changed = i .areas .changed }
+      → a ≡ record { words = i .areas .words; values = i .areas .values; fixed = x .fixed; block = bl; changed = i .areas .changed; samples = i .areas .samples }
       → StepPromise m a p ls entry exit r
   unfolding alone executed
   acts-executed f bare z w x e k y =
@@ -200,15 +200,15 @@ module _ (u : List ℕ) where
   unshifted = record { steady = steady-same u; counts = refl }
 
   pub unshifted-words : (v : List ℕ) {ws : List ℕ} → unitIn v ≡ setWords (unitIn u) ws → length v ≡ length u → Unshifted u v
-  unshifted-words v e l = record { steady = steady-means u v e refl refl refl l; counts = ap (λ (x : Unit). x .counts) e }
+  unshifted-words v e l = record { steady = steady-means u v e refl refl refl refl l; counts = ap (λ (x : Unit). x .counts) e }
 
   pub unshifted-fixed : (v : List ℕ) {fs : List ℕ} → unitIn v ≡ setFixed (unitIn u) fs → length v ≡ length u → Unshifted u v
-  unshifted-fixed v e l = record { steady = steady-means u v e refl refl refl l; counts = ap (λ (x : Unit). x .counts) e }
+  unshifted-fixed v e l = record { steady = steady-means u v e refl refl refl refl l; counts = ap (λ (x : Unit). x .counts) e }
 
   pub unshifted-numbers : (v : List ℕ) → NumbersOnly u v → Unshifted u v
   unshifted-numbers v r =
       record {
-        steady = steady-means u v (r .means) refl refl refl (r .long);
+        steady = steady-means u v (r .means) refl refl refl refl (r .long);
         counts = ap (λ (x : Unit). x .counts) (r .means);
       }
 
@@ -217,8 +217,8 @@ module _ (u : List ℕ) where
       record { steady = steady-then u v w (a .steady) (b .steady); counts = b .counts ∙ a .counts }
 
   -- the areas, where only numbers were written, or with the words or the fixed area as they were left
-  pub numbers-kept : (block v : List ℕ) → NumbersOnly u v → areasIn v block ≡ areasIn u block
-  numbers-kept block v r = ap (λ (x : Unit). areasBy x block) (r .means)
+  pub numbers-kept : (block : List ℕ) (ss : List (List ℕ)) (v : List ℕ) → NumbersOnly u v → areasIn v block ss ≡ areasIn u block ss
+  numbers-kept block ss v r = ap (λ (x : Unit). areasBy x block ss) (r .means)
 
   pub numbers-by-words : (v : List ℕ) {ws : List ℕ} → unitIn v ≡ setWords (unitIn u) ws → numbersIn v ≡ numbersIn u
   numbers-by-words v e = ap (λ (x : Unit). x .numbers) e
@@ -226,12 +226,12 @@ module _ (u : List ℕ) where
   pub numbers-by-fixed : (v : List ℕ) {fs : List ℕ} → unitIn v ≡ setFixed (unitIn u) fs → numbersIn v ≡ numbersIn u
   numbers-by-fixed v e = ap (λ (x : Unit). x .numbers) e
 
-  pub words-left : (block v : List ℕ) {ws : List ℕ} → unitIn v ≡ setWords (unitIn u) ws → areasIn v block ≡ withWords (areasIn u block) ws
-  words-left block v e = ap (λ (x : Unit). areasBy x block) e
+  pub words-left : (block : List ℕ) (ss : List (List ℕ)) (v : List ℕ) {ws : List ℕ} → unitIn v ≡ setWords (unitIn u) ws → areasIn v block ss ≡ withWords (areasIn u block ss) ws
+  words-left block ss v e = ap (λ (x : Unit). areasBy x block ss) e
 
-  pub fixed-left : (block v : List ℕ) {fs : List ℕ} → unitIn v ≡ setFixed (unitIn u) fs
-      → areasIn v block ≡ record { words = unitIn u .words; values = unitIn u .values; fixed = fs; block = block; changed = unitIn u .changed }
-  fixed-left block v e = ap (λ (x : Unit). areasBy x block) e
+  pub fixed-left : (block : List ℕ) (ss : List (List ℕ)) (v : List ℕ) {fs : List ℕ} → unitIn v ≡ setFixed (unitIn u) fs
+      → areasIn v block ss ≡ record { words = unitIn u .words; values = unitIn u .values; fixed = fs; block = block; changed = unitIn u .changed; samples = ss }
+  fixed-left block ss v e = ap (λ (x : Unit). areasBy x block ss) e
 
   -- 20h/11h
   pub reset-left : (q : Request) (v : List ℕ) {entry exit : List ℕ} {r : Filled} → length u ≡ unitLong

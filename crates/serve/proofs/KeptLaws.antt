@@ -13,10 +13,10 @@ use Rattle.serve.specs.Promises.{Undropped}
 -- nothing is changed
 pub still : (c : Config) (area held : List ℕ) → Shifted c stays area held area held
 unfolding areaAfter countsAfter
-still c area held = record { moved = refl; counted = refl }
+still c area held = record { moved = refl; counted = refl; behind = λ _. refl }
 
 pub steady-same : (u : List ℕ) → Undropped u u
-steady-same u = record { steady = record { layout = refl; config = refl; long = refl }; dropped = refl }
+steady-same u = record { steady = record { layout = refl; config = refl; long = refl }; dropped = refl; taken = refl }
 
 pub steady-then : (u v w : List ℕ) → Undropped u v → Undropped v w → Undropped u w
 steady-then u v w x y =
@@ -25,12 +25,14 @@ steady-then u v w x y =
     record {
       steady = record { layout = b .layout ∙ a .layout; config = b .config ∙ a .config; long = b .long ∙ a .long };
       dropped = y .dropped ∙ x .dropped;
+      taken = y .taken ∙ x .taken;
     }
 
--- a memory that means what it did but in parts that are neither its configuration nor its number of drops
-pub steady-means : (u v : List ℕ) {m : Unit} → unitIn v ≡ m → m .layout ≡ unitIn u .layout → m .config ≡ configIn u → m .dropped ≡ unitIn u .dropped → length v ≡ length u → Undropped u v
-steady-means u v e a b d l =
+-- a memory that means what it did but in parts that are neither its configuration nor its numbers of drops and samples
+pub steady-means : (u v : List ℕ) {m : Unit} → unitIn v ≡ m → m .layout ≡ unitIn u .layout → m .config ≡ configIn u → m .dropped ≡ unitIn u .dropped → m .taken ≡ unitIn u .taken → length v ≡ length u → Undropped u v
+steady-means u v e a b d t l =
     record {
       steady = record { layout = ap (λ (x : Unit). x .layout) e ∙ a; config = ap (λ (x : Unit). x .config) e ∙ b; long = l };
       dropped = ap (λ (x : Unit). x .dropped) e ∙ d;
+      taken = ap (λ (x : Unit). x .taken) e ∙ t;
     }

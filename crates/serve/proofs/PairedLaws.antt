@@ -31,10 +31,13 @@ use Rattle.model.proofs.PairLaws.{pair-front, pair-heard, heard-whole}
 use Rattle.model.proofs.Pairs.{Taken, pair-taken}
 use Rattle.layout.specs.Numbers.{coreIn, memoryIn, portIn}
 use Rattle.layout.proofs.NumbersLaws.{written-readable}
-use Rattle.layout.specs.Records.{filesIn, packed}
+use Rattle.layout.specs.Records.{filesIn, packed, samplesLaid}
 use Rattle.layout.specs.Unit.{unitIn, configIn, numbersIn}
-use Rattle.layout.specs.Kept.{areasIn, innerOf, innerIn, Owned, ownedOf}
-use Rattle.history.specs.Change.{areaAfter, countsAfter}
+use Rattle.layout.specs.Kept.{areasIn, innerOf, innerIn, Owned, ownedOf, samplesHeld}
+use Rattle.history.specs.Change.{areaAfter, countsAfter, changesSamples}
+use Rattle.layout.proofs.RecordsLaws.{packed-serves}
+use Rattle.history.proofs.ChangeLaws.{framed-change}
+use Rattle.layout.proofs.MeansLaws.{samples-left}
 use Rattle.serve.specs.declared.Made.{Made as MadeOf}
 use Rattle.serve.specs.Promises.{Working, MadeInPromise, FramedPromise, AheadPromise, JudgedPromise}
 use Rattle.serve.proofs.KeptLaws.{steady-then}
@@ -78,7 +81,7 @@ module _ (lag : ℕ) (s : List ℕ) (w x : Frame) (p : WholePair s w x) (o m : O
   abbrev wrote : Made
   wrote = framed c i lag (requestIn w (take writeFrame s))
 
-  made : MadeInPromise c wrote (portIn (numbersIn (o .unit)) .mark) (areasIn (m .unit) (m .block)) (filesIn c (m .area) (unitIn (m .unit) .counts))
+  made : MadeInPromise c wrote (portIn (numbersIn (o .unit)) .mark) (areasIn (m .unit) (m .block) (samplesHeld (o .unit) (o .area))) (filesIn c (m .area) (unitIn (m .unit) .counts))
       (portHeard (portIn (numbersIn (o .unit))) (take writeFrame s) (r .outcome)) (numbersIn (m .unit))
       (o .area) (unitIn (o .unit) .counts) (m .area) (unitIn (m .unit) .counts) entry mid r
   made = first .0 (work .ready) (work .numbers)
@@ -116,11 +119,18 @@ module _ (lag : ℕ) (s : List ℕ) (w x : Frame) (p : WholePair s w x) (o m : O
     port-then : portIn (numbersIn (m .unit)) ≡ portHeard (portIn (numbersIn (o .unit))) (take writeFrame s) WriteTaken
     port-then = made .makes .kept .means .port ∙ ap (portHeard (portIn (numbersIn (o .unit))) (take writeFrame s)) outcome-taken
 
-    inner-then : innerOf (coreIn (numbersIn (m .unit))) (areasIn (m .unit) (m .block)) (memoryIn (numbersIn (m .unit))) (filesIn c (m .area) (unitIn (m .unit) .counts)) (unitIn (m .unit) .dropped) ≡ wrote .inner
+    calm : changesSamples (wrote .change) ≡ false
+    unfolding changesSamples
+    calm = framed-change c (λ (ch : Change). changesSamples ch ≡ false) refl (λ f at n. refl) i lag (requestIn w (take writeFrame s))
+
+    inner-then : innerOf (coreIn (numbersIn (m .unit))) (areasIn (m .unit) (m .block) (samplesLaid (packed c) (m .area) (unitIn (m .unit) .taken))) (memoryIn (numbersIn (m .unit))) (filesIn c (m .area) (unitIn (m .unit) .counts)) (unitIn (m .unit) .dropped) ≡ wrote .inner
     inner-then =
         let k = made .makes .kept .means in
         let d : unitIn (m .unit) .dropped ≡ wrote .inner .history .dropped = first .1 .dropped ∙ sym (ap (λ (z : Inner). z .history .dropped) (took .inner)) in
-        λ j. innerOf (k .core j) (made .makes .areas j) (k .memory j) (made .makes .files j) (d j)
+        let ss : samplesLaid (packed c) (m .area) (unitIn (m .unit) .taken) ≡ samplesHeld (o .unit) (o .area) =
+        ap (samplesLaid (packed c) (m .area)) (first .1 .taken) ∙ samples-left (packed-serves c) (o .area) (m .area) (unitIn (o .unit) .taken) (made .changed .behind calm) in
+        let areas = ap (areasIn (m .unit) (m .block)) ss ∙ made .makes .areas in
+        λ j. innerOf (k .core j) (areas j) (k .memory j) (made .makes .files j) (d j)
 
     inner-as : innerIn (m .unit) (m .block) (m .area) ≡ wrote .inner
     inner-as = rw (first .1 .steady .config) inner-then
@@ -154,7 +164,7 @@ module _ (lag : ℕ) (s : List ℕ) (w x : Frame) (p : WholePair s w x) (o m : O
     pair-after : (y : Owned) {exit : List ℕ} (z : MadeOf) → FramedPromise lag x (drop writeFrame s) m y mid exit z → JudgedPromise lag s o y entry exit z
     unfolding judged followed
     pair-after y z g =
-        let second = rw (first .1 .steady .config, inner-then, port-then, heard-twice (portIn (numbersIn (o .unit))) (take writeFrame s) (drop writeFrame s) s (z .outcome) front-long behind-long all-long, marked-taken (portIn (numbersIn (o .unit))) (take writeFrame s), counts-then, area-then, buffer-then) at (g .0 (works-then .ready) (works-then .numbers)) in (
+        let second = rw (first .1 .steady .config, inner-then, port-then, heard-twice (portIn (numbersIn (o .unit))) (take writeFrame s) (drop writeFrame s) s (z .outcome) front-long behind-long all-long, marked-taken (portIn (numbersIn (o .unit))) (take writeFrame s), counts-then, area-then, first .1 .taken, buffer-then) at (g .0 (works-then .ready) (works-then .numbers)) in (
           λ ready numbers. rw (pair-heard s w x p, eq-eqb (answerNumber (wrote .answer)) 5 (outcome-shown ∙ five)) second,
           steady-then _ _ _ (first .1) (g .1),
         )

@@ -14,6 +14,7 @@ use Rattle.model.specs.State.{Areas, Files, Inner}
 use Rattle.model.specs.Change.{stays, applied}
 use Rattle.model.specs.Scan.{refuses}
 use Rattle.model.specs.Inputs as points
+use Rattle.model.specs.Means.{equippedNow}
 use Rattle.model.specs.Calculations.{calculationsOf}
 use Rattle.model.specs.Tables.{tablesOf}
 use Rattle.model.specs.Control.{Controlled, controlOf, breaks}
@@ -68,7 +69,7 @@ module _ (c : Config) (i : Inner) (lag : ℕ) (q : Request) where
     unfolding stepOf otherOf
     step-inputs e = simp (b, e)
 
-    pub step-calculations : q .function ≡ 0x03 → stepOf c i lag q ≡ alone i (scanned (i .core) (i .areas) (calculationsOf (c .calculations) (i .areas .values) q))
+    pub step-calculations : q .function ≡ 0x03 → stepOf c i lag q ≡ alone i (scanned (i .core) (i .areas) (calculationsOf (equippedNow c (i .areas .samples)) (i .areas .values) q))
     unfolding stepOf otherOf
     step-calculations e = simp (b, e)
 
@@ -133,7 +134,7 @@ unfolding alone
 alone-stays i p e = rw e
 
 -- what was made, and then only numbers written
-pub makes-renumbered : (c : Config) (v w block : List ℕ) {m : Made} {mark : Mark} {p : Port} {ls area held area′ entry exit : List ℕ} {r : MadeOf} → NumbersOnly v w
-    → MadeInPromise c m mark (areasIn v block) (filesIn c area′ (unitIn v .counts)) p ls area held area′ (unitIn v .counts) entry exit r
-    → MadeInPromise c m mark (areasIn w block) (filesIn c area′ (unitIn w .counts)) p ls area held area′ (unitIn w .counts) entry exit r
-makes-renumbered c v w block n h = rw (unshifted-numbers v w n .counts, numbers-kept v block w n) h
+pub makes-renumbered : (c : Config) (v w block : List ℕ) (ss : List (List ℕ)) {m : Made} {mark : Mark} {p : Port} {ls area held area′ entry exit : List ℕ} {r : MadeOf} → NumbersOnly v w
+    → MadeInPromise c m mark (areasIn v block ss) (filesIn c area′ (unitIn v .counts)) p ls area held area′ (unitIn v .counts) entry exit r
+    → MadeInPromise c m mark (areasIn w block ss) (filesIn c area′ (unitIn w .counts)) p ls area held area′ (unitIn w .counts) entry exit r
+makes-renumbered c v w block ss n h = rw (unshifted-numbers v w n .counts, numbers-kept v block ss w n) h

@@ -15,7 +15,7 @@ use Rattle.model.specs.State.{Areas, Files, Inner}
 use Rattle.model.specs.Fits.{fits}
 use Rattle.model.specs.Step.{Made, quiet, served, broadcastOf, broadcastMade, framed, judged, makeOf}
 use Rattle.model.specs.Port.{portHeard, portAfter}
-use Rattle.model.specs.Change.{stays}
+use Rattle.model.specs.Change.{stays, Change}
 use Rattle.model.specs.Run.{short, Result, turnedAway, shows, moves, decided, resultOf, nextOf, changeOf}
 use Rattle.model.specs.declared.Outcome.{Outcome}
 use Rattle.model.specs.declared.Outcome.the-variants.{NotWhole, CheckWrong, OtherUnit, NotConfigured, BufferShort}
@@ -30,13 +30,16 @@ use Rattle.layout.proofs.NumbersLaws.{written-readable}
 use Rattle.layout.proofs.PlaceLaws.{port-written}
 use Rattle.port.specs.Heard.{portHeardBy}
 use Rattle.port.proofs.PortLaws.{heard-as}
-use Rattle.layout.specs.Records.{filesIn}
+use Rattle.layout.specs.Records.{filesIn, packed, samplesLaid}
 use Rattle.history.proofs.LayoutLaws.{length-area}
-use Rattle.history.proofs.RunLaws.{stretch-undropped}
+use Rattle.history.specs.Change.{takenAfter, changesSamples}
+use Rattle.layout.proofs.RecordsLaws.{packed-serves}
+use Rattle.layout.proofs.MeansLaws.{samples-left}
+use Rattle.history.proofs.ChangeLaws.{stretch-undropped, judged-change}
 use Rattle.layout.specs.Unit.{Renumbered, unitIn, configIn, numbersIn}
 use Rattle.layout.proofs.UnitLaws.{numbers-left, numbers-only}
 use Rattle.model.proofs.TurnedAway.{short-away, unfit-away, works}
-use Rattle.layout.specs.Kept.{Kept, areasIn, innerOf, stateOf, Owned, keptIn, standing}
+use Rattle.layout.specs.Kept.{Kept, areasIn, innerOf, stateOf, Owned, keptIn, standing, samplesHeld}
 use Rattle.serve.proofs.FitLaws.{stands-again}
 use Rattle.serve.proofs.KeptLaws.{still, steady-same}
 use Rattle.serve.specs.declared.Made.{Made as MadeOf}
@@ -105,7 +108,7 @@ module _ (c : Config) (lag : ℕ) (s : List ℕ) (k : Kept) (entry : List ℕ) {
   -- turned away by o, and nothing is changed
   turned : (o : Outcome) → (resultOf c (stateOf c k) (coming entry lag s) ≡ turnedAway o) × (nextOf c (stateOf c k) (coming entry lag s) ≡ stateOf c k)
       → changeOf c (stateOf c k) (coming entry lag s) ≡ stays → r ≡ record { outcome = o; action = Rest; sent = 0 } → Turns c lag s k k entry entry r
-  unfolding turnedAway
+  unfolding turnedAway takenAfter
   turned o w z e =
       rw e
       (record {
@@ -117,6 +120,7 @@ module _ (c : Config) (lag : ℕ) (s : List ℕ) (k : Kept) (entry : List ℕ) {
         written = sym (put-none entry 0) ∙ sym (ap (λ (x : Result). put entry 0 (x .reply)) (w .0));
         next = sym (w .1);
         changed = rw z (still c (k .area) (k .counts));
+        taken = rw z refl;
       })
 
   pub turns-short : length entry < longestReply
@@ -178,21 +182,21 @@ makes-marked s {p = p} {r = r} v n =
     })
 
 -- the same in a unit's memory, of which only numbers are written
-pub unit-marked : (s : List ℕ) (c : Config) (v w block : List ℕ) {m : Made} {mark : Mark} {p : Port} {area held area′ entry exit : List ℕ} {r x : MadeOf}
-    → MadeInPromise c m mark (areasIn v block) (filesIn c area′ (unitIn v .counts)) p (numbersIn v) area held area′ (unitIn v .counts) entry exit r
+pub unit-marked : (s : List ℕ) (c : Config) (v w block : List ℕ) (ss : List (List ℕ)) {m : Made} {mark : Mark} {p : Port} {area held area′ entry exit : List ℕ} {r x : MadeOf}
+    → MadeInPromise c m mark (areasIn v block ss) (filesIn c area′ (unitIn v .counts)) p (numbersIn v) area held area′ (unitIn v .counts) entry exit r
     → (x ≡ r) × Renumbered v w (putPort (portHeardBy (portIn (numbersIn v)) (length s) (r .outcome)) (numbersIn v))
-    → MadeInPromise c m mark (areasIn w block) (filesIn c area′ (unitIn w .counts)) (portHeard p s (x .outcome)) (numbersIn w) area held area′ (unitIn w .counts) entry exit x
-unit-marked s c v w block h n =
+    → MadeInPromise c m mark (areasIn w block ss) (filesIn c area′ (unitIn w .counts)) (portHeard p s (x .outcome)) (numbersIn w) area held area′ (unitIn w .counts) entry exit x
+unit-marked s c v w block ss h n =
     let only = numbers-only v w (n .1) in
-    rw (unshifted-numbers v w only .counts, numbers-kept v block w only) (makes-marked s h (n .0, numbers-left v w (n .1)))
+    rw (unshifted-numbers v w only .counts, numbers-kept v block ss w only) (makes-marked s h (n .0, numbers-left v w (n .1)))
 
 pub stretch-made : (lag : ℕ) (s : List ℕ) (x : Owned) (entry : List ℕ) (y : Owned) {exit : List ℕ} (m : MadeOf) → standing x ≡ true → longestReply ≤ length entry
     → fits (configIn (x .unit)) (stateOf (configIn (x .unit)) (keptIn x)) ≡ true
     → MadeInPromise (configIn (x .unit)) (judged (configIn (x .unit)) (stateOf (configIn (x .unit)) (keptIn x) .inner) lag s (heardOf s))
-    (portIn (numbersIn (x .unit)) .mark) (areasIn (y .unit) (y .block)) (filesIn (configIn (x .unit)) (y .area) (unitIn (y .unit) .counts)) (portHeard (portIn (numbersIn (x .unit))) s (m .outcome)) (numbersIn (y .unit))
+    (portIn (numbersIn (x .unit)) .mark) (areasIn (y .unit) (y .block) (samplesHeld (x .unit) (x .area))) (filesIn (configIn (x .unit)) (y .area) (unitIn (y .unit) .counts)) (portHeard (portIn (numbersIn (x .unit))) s (m .outcome)) (numbersIn (y .unit))
     (x .area) (unitIn (x .unit) .counts) (y .area) (unitIn (y .unit) .counts) entry exit m → Undropped (x .unit) (y .unit)
     → StretchPromise lag s x y entry exit m
-unfolding short makeOf shows moves portAfter changeOf decided
+unfolding short makeOf shows moves portAfter changeOf decided changesSamples takenAfter
 stretch-made lag s x entry y {exit} m g l b v u =
     let c = configIn (x .unit) in
     let t : short (coming entry lag s) ≡ false = le-ltb (length entry) longestReply l in
@@ -202,6 +206,12 @@ stretch-made lag s x entry y {exit} m g l b v u =
     let port = ap (portAfter (portIn (numbersIn (x .unit))) (coming entry lag s)) (z .answered) in
     let drops = u .dropped ∙ sym (stretch-undropped c (stateOf c (keptIn x) .inner) lag s) in
     let long : length (y .area) ≡ length (x .area) = ap length (v .changed .moved) ∙ length-area _ _ _ _ in
+    let i = stateOf c (keptIn x) .inner in
+    let calm = judged-change c (λ (ch : Change). changesSamples ch ≡ false) refl (λ f at n. refl) i lag s in
+    let ss : samplesLaid (packed c) (y .area) (unitIn (y .unit) .taken) ≡ samplesHeld (x .unit) (x .area) =
+    ap (samplesLaid (packed c) (y .area)) (u .taken) ∙ samples-left (packed-serves c) (x .area) (y .area) (unitIn (x .unit) .taken) (v .changed .behind calm) in
+    let areas = ap (areasIn (y .unit) (y .block)) ss ∙ z .areas in
+    let none = judged-change c (λ (ch : Change). takenAfter ch (unitIn (x .unit) .taken) ≡ unitIn (x .unit) .taken) refl (λ f at n. refl) i lag s in
     record {
       read = λ _. record {
         turns = record {
@@ -213,11 +223,12 @@ stretch-made lag s x entry y {exit} m g l b v u =
           written = z .written ∙ sym (ap (λ (x : Result). put entry 0 (x .reply)) (w .0));
           next = (λ j.
               record {
-                inner = innerOf (k .means .core j) (z .areas j) (k .means .memory j) (z .files j) (drops j);
+                inner = innerOf (k .means .core j) (areas j) (k .means .memory j) (z .files j) (drops j);
                 port = (k .means .port ∙ port) j;
               })
               ∙ sym (w .1);
           changed = rw (t, b) (v .changed);
+          taken = rw (t, b) (u .taken ∙ sym none);
         };
         stand = stands-again x y g (u .steady) long (written-readable k);
         steady = u .steady;

@@ -60,16 +60,16 @@ anew-or true gs a = refl
 anew-or false gs a = refl
 
 -- a memory t of which only numbers differ from v, and w in which the carried groups have started anew
-module _ (c : Config) (v t w block : List ℕ) (f : Frame) (body : List ℕ) (o : Outcome) (only : NumbersOnly v t) (same : configIn t ≡ c)
+module _ (c : Config) (v t w block : List ℕ) (ss : List (List ℕ)) (f : Frame) (body : List ℕ) (o : Outcome) (only : NumbersOnly v t) (same : configIn t ≡ c)
     (told : Anew t w (cond (eqb (numberOf o) 0) (groupsCarried (configIn t .inputs) (unitIn t .fixed) (asked f [])) [])) where
-  pub areas-left : areasIn w block ≡ areasLeft c (asked f body) (Ended o) (areasIn v block)
+  pub areas-left : areasIn w block ss ≡ areasLeft c (asked f body) (Ended o) (areasIn v block ss)
   unfolding areasLeft areasAnew groupsCarried asksFor
   areas-left =
       let b = eqb (numberOf o) 0 in
-      ap (λ (x : Unit). areasBy x block) (told .means)
-      ∙ anew-or b (groupsCarried (configIn t .inputs) (unitIn t .fixed) (asked f [])) (areasIn t block)
-      ∙ ap (λ (a : Areas). cond b (areasAnew (groupsCarried (configIn t .inputs) (a .fixed) (asked f [])) a) a) (numbers-kept v block t only)
-      ∙ ap (λ (k : Config). cond b (areasAnew (groupsCarried (k .inputs) (unitIn v .fixed) (asked f body)) (areasIn v block)) (areasIn v block)) same
+      ap (λ (x : Unit). areasBy x block ss) (told .means)
+      ∙ anew-or b (groupsCarried (configIn t .inputs) (unitIn t .fixed) (asked f [])) (areasIn t block ss)
+      ∙ ap (λ (a : Areas). cond b (areasAnew (groupsCarried (configIn t .inputs) (a .fixed) (asked f [])) a) a) (numbers-kept v block ss t only)
+      ∙ ap (λ (k : Config). cond b (areasAnew (groupsCarried (k .inputs) (unitIn v .fixed) (asked f body)) (areasIn v block ss)) (areasIn v block ss)) same
 
   pub makes-told : {m : Made} {mark : Mark} {a : Areas} {p : Port} {area held area′ entry exit : List ℕ} {r : MadeOf}
       → MadeInPromise c m mark a (filesIn c area′ (unitIn v .counts)) p (numbersIn t) area held area′ (unitIn v .counts) entry exit r
@@ -80,4 +80,4 @@ module _ (c : Config) (v t w block : List ℕ) (f : Frame) (body : List ℕ) (o 
       rw (n, k) h
 
   pub told-steady : Undropped t w
-  told-steady = steady-means t w (told .means) refl refl refl (told .long)
+  told-steady = steady-means t w (told .means) refl refl refl refl (told .long)

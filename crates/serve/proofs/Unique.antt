@@ -22,9 +22,9 @@ use Rattle.serve.proofs.FitLaws.{stands-readable}
 use Rattle.serve.proofs.line.stretch.Reads as stretch
 use Rattle.serve.proofs.handed.reply.Reads as reply
 
--- all that is kept follows from the state, and from the lent characters and counts of the files
-pub kept-same : (c : Config) (l m : Kept) → stateOf c l ≡ stateOf c m → l .area ≡ m .area → l .counts ≡ m .counts → l ≡ m
-kept-same c l m e a n =
+-- all that is kept follows from the state, and from the lent characters and the counts of records and samples
+pub kept-same : (c : Config) (l m : Kept) → stateOf c l ≡ stateOf c m → l .area ≡ m .area → l .counts ≡ m .counts → l .taken ≡ m .taken → l ≡ m
+kept-same c l m e a n t =
     λ i. record {
       core = ap (λ (s : State). s .inner .core) e i;
       memory = ap (λ (s : State). s .inner .history .memory) e i;
@@ -37,6 +37,7 @@ kept-same c l m e a n =
       counts = n i;
       dropped = ap (λ (s : State). s .inner .history .dropped) e i;
       changed = ap (λ (s : State). s .inner .areas .changed) e i;
+      taken = t i;
     }
 
 -- what is owned follows from the unit that it means, as its memory is characters
@@ -44,7 +45,7 @@ pub owned-same : (y z : Owned) → length (y .unit) ≡ unitLong → length (z .
     → standing y ≡ true → standing z ≡ true → unitIn (y .unit) .layout ≡ unitIn (z .unit) .layout → configIn (y .unit) ≡ configIn (z .unit) → keptIn y ≡ keptIn z → y ≡ z
 owned-same y z l m p q a b t c e =
     let n = readable-one (numbersIn (y .unit)) (numbersIn (z .unit)) (stands-readable y a) (stands-readable z b) (ap (λ (k : Kept). k .core) e) (ap (λ (k : Kept). k .memory) e) (ap (λ (k : Kept). k .port) e) in
-    let u = unit-one (y .unit) (z .unit) l m p q (λ i. record { layout = t i; config = c i; numbers = n i; words = e i .words; values = e i .results; fixed = e i .fixed; counts = e i .counts; dropped = e i .dropped; changed = e i .changed }) in
+    let u = unit-one (y .unit) (z .unit) l m p q (λ i. record { layout = t i; config = c i; numbers = n i; words = e i .words; values = e i .results; fixed = e i .fixed; counts = e i .counts; dropped = e i .dropped; changed = e i .changed; taken = e i .taken }) in
     λ i. record { unit = u i; block = e i .block; area = e i .area }
 
 pub ended-same : (o p : Outcome) → Ended o ≡ Ended p → o ≡ p
@@ -56,7 +57,7 @@ module _ (lag : ℕ) (s : List ℕ) (x y z : Owned) (entry : List ℕ) {exit exi
   one-served a b =
       let f = a .turns in
       let g = b .turns in
-      let k = kept-same (configIn (x .unit)) _ _ (f .next ∙ sym (g .next)) (f .changed .moved ∙ sym (g .changed .moved)) (f .changed .counted ∙ sym (g .changed .counted)) in
+      let k = kept-same (configIn (x .unit)) _ _ (f .next ∙ sym (g .next)) (f .changed .moved ∙ sym (g .changed .moved)) (f .changed .counted ∙ sym (g .changed .counted)) (f .taken ∙ sym (g .taken)) in
       let o = ended-same (r .outcome) (t .outcome) (f .answered ∙ sym (g .answered)) in (
         λ i. record { outcome = o i; action = (f .acted ∙ sym (g .acted)) i; sent = (f .counted ∙ sym (g .counted)) i },
         f .written ∙ sym (g .written),

@@ -30,7 +30,7 @@ use Rattle.layout.specs.Numbers.{coreIn, memoryIn, portIn, readable, Written}
 use Rattle.layout.specs.Unit.{unitIn, configIn, numbersIn, NumbersOnly}
 use Rattle.layout.specs.Records.{filesIn, roomOf}
 use Rattle.port.specs.Heard.{portHeardBy}
-use Rattle.layout.specs.Kept.{areasIn, filesHeld, historyIn, innerBy, innerIn, Owned, ownedOf, Steady}
+use Rattle.layout.specs.Kept.{areasIn, samplesHeld, filesHeld, historyIn, innerBy, innerIn, Owned, ownedOf, Steady}
 use Rattle.serve.specs.Changes.{Shifted}
 use Rattle.serve.specs.declared.step.Step.{Step}
 use Rattle.serve.specs.declared.Made.{Made as MadeOf}
@@ -41,10 +41,11 @@ use Rattle.serve.specs.declared.Made.{Made as MadeOf}
 abbrev pub NumbersPromise : List ℕ → List ℕ → Core → Memory → Port → Type 0
 NumbersPromise u v core memory port = (readable (numbersIn u) ≡ true → Written core memory port (numbersIn v)) × NumbersOnly u v
 
--- a steady memory that tells of no more drops, as every stretch leaves it (Request 7.7)
+-- a steady memory that tells of no more drops and samples, as every stretch leaves it (Request 4.4, 7.7)
 pub record Undropped (u v : List ℕ) : Type 0 where
   pub steady : Steady u v
   pub dropped : unitIn v .dropped ≡ unitIn u .dropped
+  pub taken : unitIn v .taken ≡ unitIn u .taken
 
 -- and that keeps its counts of records
 pub record Unshifted (u v : List ℕ) : Type 0 where
@@ -90,25 +91,25 @@ pub record StepInPromise (c : Config) (m : Stepped) (a : Areas) (fs fs′ : File
   pub files : fs′ ≡ applied (m .change) fs
   pub changed : Shifted c (m .change) area counts area′ counts′
 
--- function 20h, whatever records there are
+-- function 20h, whatever samples and records there are
 abbrev pub InternalPromise : ℕ → Request → List ℕ → List ℕ → List ℕ → List ℕ → List ℕ → List ℕ → Step → Type 0
 InternalPromise lag q u block v block′ entry exit r =
-    ((fs : Files) → readable (numbersIn u) ≡ true
-    → StepPromise (internalStep (configIn u) (innerBy u block fs) lag q) (areasIn v block′) (portIn (numbersIn u)) (numbersIn v) entry exit r)
+    ((ss : List (List ℕ)) (fs : Files) → readable (numbersIn u) ≡ true
+    → StepPromise (internalStep (configIn u) (innerBy u block ss fs) lag q) (areasIn v block′ ss) (portIn (numbersIn u)) (numbersIn v) entry exit r)
     × Unshifted u v
 
 -- function 28h, which changes only the buffer
 abbrev pub ReturnedPromise : Request → List ℕ → List ℕ → List ℕ → List ℕ → Step → Type 0
 ReturnedPromise q u block entry exit r =
-    (fs : Files) → readable (numbersIn u) ≡ true
-    → StepPromise (alone (innerBy u block fs) (returnOf (coreIn (numbersIn u)) (areasIn u block) q)) (areasIn u block) (portIn (numbersIn u)) (numbersIn u) entry exit r
+    (ss : List (List ℕ)) (fs : Files) → readable (numbersIn u) ≡ true
+    → StepPromise (alone (innerBy u block ss fs) (returnOf (coreIn (numbersIn u)) (areasIn u block ss) q)) (areasIn u block ss) (portIn (numbersIn u)) (numbersIn u) entry exit r
 
 -- any function, of what is owned before and after
 abbrev pub ActPromise : ℕ → Request → Owned → Owned → List ℕ → List ℕ → Step → Type 0
 ActPromise lag q x y entry exit r =
     (Ready (x .unit) (x .area) → readable (numbersIn (x .unit)) ≡ true
     → StepInPromise (configIn (x .unit)) (stepOf (configIn (x .unit)) (innerIn (x .unit) (x .block) (x .area)) lag q)
-    (areasIn (y .unit) (y .block)) (filesHeld (x .unit) (x .area)) (filesIn (configIn (x .unit)) (y .area) (unitIn (y .unit) .counts))
+    (areasIn (y .unit) (y .block) (samplesHeld (x .unit) (x .area))) (filesHeld (x .unit) (x .area)) (filesIn (configIn (x .unit)) (y .area) (unitIn (y .unit) .counts))
     (portIn (numbersIn (x .unit))) (numbersIn (y .unit)) (x .area) (unitIn (x .unit) .counts) (y .area) (unitIn (y .unit) .counts) entry exit r)
     × Undropped (x .unit) (y .unit)
 
@@ -134,7 +135,7 @@ pub record MadeInPromise (c : Config) (m : Made) (mark : Mark) (a : Areas) (fs :
 abbrev pub OwnedPromise : Made → Port → Owned → Owned → List ℕ → List ℕ → MadeOf → Type 0
 OwnedPromise m p x y entry exit r =
     (Ready (x .unit) (x .area) → readable (numbersIn (x .unit)) ≡ true
-    → MadeInPromise (configIn (x .unit)) m (portIn (numbersIn (x .unit)) .mark) (areasIn (y .unit) (y .block))
+    → MadeInPromise (configIn (x .unit)) m (portIn (numbersIn (x .unit)) .mark) (areasIn (y .unit) (y .block) (samplesHeld (x .unit) (x .area)))
     (filesIn (configIn (x .unit)) (y .area) (unitIn (y .unit) .counts)) p (numbersIn (y .unit))
     (x .area) (unitIn (x .unit) .counts) (y .area) (unitIn (y .unit) .counts) entry exit r)
     × Undropped (x .unit) (y .unit)
@@ -176,14 +177,14 @@ pub record StirPromise (x : StepOf) (a : Areas) (w : Memory) (p : Port) (ls : Li
 -- its function, whatever parameter block there is
 abbrev pub BroadcastStepPromise : ℕ → Request → List ℕ → List ℕ → Step → Type 0
 BroadcastStepPromise lag q u v r =
-    ((block : List ℕ) → readable (numbersIn u) ≡ true
-    → StirPromise (broadcastOf (configIn u) (coreIn (numbersIn u)) (areasIn u block) lag q) (areasIn v block) (memoryIn (numbersIn u)) (portIn (numbersIn u)) (numbersIn v) (r .outcome))
+    ((block : List ℕ) (ss : List (List ℕ)) → readable (numbersIn u) ≡ true
+    → StirPromise (broadcastOf (configIn u) (coreIn (numbersIn u)) (areasIn u block ss) lag q) (areasIn v block ss) (memoryIn (numbersIn u)) (portIn (numbersIn u)) (numbersIn v) (r .outcome))
     × Unshifted u v
 
 -- all of it, whatever else there is
 abbrev pub BroadcastPromise : ℕ → Request → List ℕ → List ℕ → MadeOf → Type 0
 BroadcastPromise lag q u v r =
-    ((block : List ℕ) (fs : Files) (mark : Mark) (entry : List ℕ) → readable (numbersIn u) ≡ true
-    → MadePromise (broadcastMade (innerBy u block fs) (broadcastOf (configIn u) (coreIn (numbersIn u)) (areasIn u block) lag q)) mark
-    (areasIn v block) fs (portIn (numbersIn u)) (numbersIn v) entry entry r)
+    ((block : List ℕ) (ss : List (List ℕ)) (fs : Files) (mark : Mark) (entry : List ℕ) → readable (numbersIn u) ≡ true
+    → MadePromise (broadcastMade (innerBy u block ss fs) (broadcastOf (configIn u) (coreIn (numbersIn u)) (areasIn u block ss) lag q)) mark
+    (areasIn v block ss) fs (portIn (numbersIn u)) (numbersIn v) entry entry r)
     × Unshifted u v

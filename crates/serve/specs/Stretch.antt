@@ -16,6 +16,7 @@ use Rattle.model.specs.declared.Action.the-variants.{Rest}
 use Rattle.layout.specs.Unit.{configIn}
 use Rattle.serve.specs.declared.Made.{Made}
 use Rattle.layout.specs.Kept.{Kept, stateOf, Owned, keptIn, standing, Steady}
+use Rattle.history.specs.Change.{takenAfter}
 use Rattle.serve.specs.Changes.{Shifted}
 
 -- a stretch s as it comes with a lent buffer and a lag
@@ -33,6 +34,7 @@ pub record Turns (c : Config) (lag : ℕ) (s : List ℕ) (k l : Kept) (entry exi
   pub written : exit ≡ put entry 0 (resultOf c (stateOf c k) (coming entry lag s) .reply)
   pub next : stateOf c l ≡ nextOf c (stateOf c k) (coming entry lag s)
   pub changed : Shifted c (changeOf c (stateOf c k) (coming entry lag s)) (k .area) (k .counts) (l .area) (l .counts)
+  pub taken : l .taken ≡ takenAfter (changeOf c (stateOf c k) (coming entry lag s)) (k .taken)
 
 -- the same of what a caller owns, which is such as a unit writes afterwards and keeps its configuration
 pub record Served (lag : ℕ) (s : List ℕ) (x y : Owned) (entry exit : List ℕ) (r : Made) : Type 0 where

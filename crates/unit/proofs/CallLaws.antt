@@ -6,12 +6,12 @@ use mathlib.Core.List.{List, [], _∷_, map}
 use lib.ListN.{length, take}
 use native.Mathlib.Omega.{arith}
 use Rattle.chars.proofs.PutLaws.{take-put-front}
-use Rattle.model.specs.Config.{Config}
+use Rattle.model.specs.Config.{Config, isMean}
 use Rattle.model.proofs.Conditions.{by-cond}
 use Rattle.model.specs.State.{State}
 use Rattle.model.specs.Fits.{fits}
-use Rattle.model.specs.Event.{Local, setWord, setValue, pulses, store, contact, Event, stretch, elapsed, local}
-use Rattle.model.specs.Step.{quiet, elapsedMade, localMade, wordMade, valueMade, contactMade, storeMade, localOf, makeOf}
+use Rattle.model.specs.Event.{Local, setWord, setValue, pulses, store, contact, sample, Event, stretch, elapsed, local}
+use Rattle.model.specs.Step.{Made as MadeOf, quiet, elapsedMade, localMade, wordMade, valueMade, contactMade, storeMade, sampledMade, sampleMade, localOf, makeOf}
 use Rattle.model.specs.Port.{sentChars}
 use Rattle.model.specs.Run.{Result, Entry, short, turnedAway, shows, decided, resultOf, nextOf, changeOf, entryOf, afterFrom, traceFrom}
 use Rattle.model.specs.declared.Answer.{Answer}
@@ -19,7 +19,7 @@ use Rattle.model.specs.declared.Action.the-variants.{Rest}
 use Rattle.layout.specs.Records.{roomOf, packed}
 use Rattle.layout.specs.Kept.{Kept, keptOf, stateOf}
 use Rattle.layout.proofs.RecordsLaws.{packed-serves}
-use Rattle.history.specs.Change.{OthersStay}
+use Rattle.history.specs.Change.{takenAfter, OthersStay}
 use Rattle.history.specs.Runs.{keptAs, nextLaid, answersLaid, afterLaid}
 use Rattle.history.proofs.RunLaws.{event-untouched}
 use Rattle.serve.specs.Changes.{Shifted}
@@ -52,12 +52,13 @@ pub record Still (x : Result) : Type 0 where
   pub reply : x .reply ≡ []
 
 still-local : (c : Config) (s : State) (e : Local) → Still (shows (s .port) (localOf c (s .inner) e))
-unfolding shows localOf wordMade valueMade contactMade localMade storeMade quiet sentChars
+unfolding shows localOf wordMade valueMade contactMade localMade storeMade sampledMade sampleMade quiet sentChars
 still-local c s (setWord i w) = record { action = refl; reply = refl }
 still-local c s (setValue i v) = record { action = refl; reply = refl }
 still-local c s (pulses i p) = record { action = refl; reply = refl }
 still-local c s (contact i p) = record { action = refl; reply = refl }
 still-local c s (store f t vs) = record { action = refl; reply = refl }
+still-local c s (sample n) = by-cond {A = MadeOf} (λ m. Still (shows (s .port) m)) (isMean c (n .0)) (λ e. record { action = refl; reply = refl }) (λ e. record { action = refl; reply = refl })
 
 still-shown : (c : Config) (s : State) (e : Event) → NoStretch e → Still (shows (s .port) (makeOf c (s .inner) e))
 unfolding NoStretch shows makeOf elapsedMade quiet sentChars
@@ -89,24 +90,24 @@ calls-trace c (heeded {es = es} n h cs) =
 
 -- what a call leaves is what the packed layout leaves
 next-laid : (c : Config) (k l : Kept) (e : Event) → stateOf c l ≡ nextOf c (stateOf c k) e → Shifted c (changeOf c (stateOf c k) e) (k .area) (k .counts) (l .area) (l .counts)
-    → l ≡ nextLaid (packed c) c k e
+    → l .taken ≡ takenAfter (changeOf c (stateOf c k) e) (k .taken) → l ≡ nextLaid (packed c) c k e
 unfolding nextLaid keptAs
-next-laid c k l e n ch =
+next-laid c k l e n ch t =
     λ i. keptOf (n i .inner .core) (n i .inner .history .memory) (n i .port) (n i .inner .areas .words) (n i .inner .areas .values) (n i .inner .areas .fixed)
-    (n i .inner .areas .block) (ch .moved i) (ch .counted i) (n i .inner .history .dropped) (n i .inner .areas .changed)
+    (n i .inner .areas .block) (ch .moved i) (ch .counted i) (n i .inner .history .dropped) (n i .inner .areas .changed) (t i)
 
 -- and so what a run of them shows and leaves
 pub calls-laid : (c : Config) {k l : Kept} {es : List Event} {xs : List Result} → Calls c k es xs l → (xs ≡ answersLaid (packed c) c k es) × (l ≡ afterLaid (packed c) c k es)
 unfolding answersLaid afterLaid
 calls-laid c none = (refl, refl)
 calls-laid c (heard {k} {l} {es = es} t cs) =
-    let n = next-laid c k l _ (t .next) (t .changed) in
+    let n = next-laid c k l _ (t .next) (t .changed) (t .taken) in
     let r = calls-laid c cs in (
       λ i. shown-turn c t i ∷ (r .0 ∙ ap (λ (m : Kept). answersLaid (packed c) c m es) n) i,
       r .1 ∙ ap (λ (m : Kept). afterLaid (packed c) c m es) n,
     )
 calls-laid c (heeded {k} {l} {e = e} {es = es} o h cs) =
-    let n = next-laid c k l e (h .next) (h .changed) in
+    let n = next-laid c k l e (h .next) (h .changed) (h .taken) in
     let r = calls-laid c cs in (
       λ i. shown-heed c o h i ∷ (r .0 ∙ ap (λ (m : Kept). answersLaid (packed c) c m es) n) i,
       r .1 ∙ ap (λ (m : Kept). afterLaid (packed c) c m es) n,
@@ -114,9 +115,9 @@ calls-laid c (heeded {k} {l} {e = e} {es = es} o h cs) =
 
 -- no call touches a character of a file that it does not change, or one behind the room
 pub call-untouched : (c : Config) (k l : Kept) (e : Event) → stateOf c l ≡ nextOf c (stateOf c k) e → Shifted c (changeOf c (stateOf c k) e) (k .area) (k .counts) (l .area) (l .counts)
-    → roomOf c ≤ length (k .area) → length (k .counts) ≡ 32 → OthersStay c (packed c) (changeOf c (stateOf c k) e) (k .area) (l .area)
-call-untouched c k l e n ch room long =
-    rw (ap (λ (m : Kept). m .area) (next-laid c k l e n ch)) (event-untouched (packed c) c (λ v. packed-serves c) k (unfold packed in room) long e)
+    → l .taken ≡ takenAfter (changeOf c (stateOf c k) e) (k .taken) → roomOf c ≤ length (k .area) → length (k .counts) ≡ 32 → length (k .taken) ≡ 16 → OthersStay c (packed c) (changeOf c (stateOf c k) e) (k .area) (l .area)
+call-untouched c k l e n ch t room long many =
+    rw (ap (λ (m : Kept). m .area) (next-laid c k l e n ch t)) (event-untouched (packed c) c (λ v. packed-serves c) k (unfold packed roomOf in room) long many e)
 
 -- the results of a trace, entry by entry
 pub results-map : (xs : List Entry) → results xs ≡ map (λ (x : Entry). x .result) xs

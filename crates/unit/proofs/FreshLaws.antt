@@ -15,7 +15,7 @@ use Rattle.model.specs.Port.{markNumber}
 use Rattle.model.specs.declared.Memory.the-variants.{Nothing}
 use Rattle.model.proofs.Conditions.{and-both}
 use Rattle.layout.specs.Records.{packed, roomOf}
-use Rattle.history.proofs.RunLaws.{files-none}
+use Rattle.history.proofs.RunLaws.{files-none, samples-none}
 use Rattle.layout.specs.Numbers.{
   bitOf,
   holdNumbers,
@@ -102,10 +102,10 @@ module _ (cs : List ℕ) {n : ℕ} (as-said : n ≡ configGiven cs .block) {u bl
       let w = fresh-written .means in
       let ks = laid-numbers in
       let x = f .means in
-      (λ i. stateOf (configIn u) (keptOf (coreIn (ks i)) (memoryIn (ks i)) (portIn (ks i)) (x i .words) (x i .values) (x i .fixed) (blank i) area (x i .counts) (x i .dropped) (x i .changed)))
+      (λ i. stateOf (configIn u) (keptOf (coreIn (ks i)) (memoryIn (ks i)) (portIn (ks i)) (x i .words) (x i .values) (x i .fixed) (blank i) area (x i .counts) (x i .dropped) (x i .changed) (x i .taken)))
       ∙ (λ i. stateOf (configIn u)
-      (keptOf (w .core i) (w .memory i) (w .port i) (replicate 256 0) (replicate 128 0) (replicate 528 0) (replicate (configIn u .block) 0) area (replicate 32 0) (replicate 32 0) (replicate 32 0)))
-      ∙ rw (files-none (packed (configIn u)) (configIn u .values) area)
+      (keptOf (w .core i) (w .memory i) (w .port i) (replicate 256 0) (replicate 128 0) (replicate 528 0) (replicate (configIn u .block) 0) area (replicate 32 0) (replicate 32 0) (replicate 32 0) (replicate 16 0)))
+      ∙ rw (files-none (packed (configIn u)) (configIn u .values) area, samples-none (packed (configIn u)) area)
 
   pub laid-stands : roomOf (configIn u) ≤ length area → standing (ownedOf u bl area) ≡ true
   unfolding standing

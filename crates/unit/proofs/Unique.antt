@@ -21,16 +21,17 @@ use Rattle.unit.proofs.local.contact.Reads as contact
 use Rattle.unit.proofs.local.pulses.Reads as pulses
 use Rattle.unit.proofs.local.set_value.Reads as set-value
 use Rattle.unit.proofs.local.store_record.Reads as store-record
+use Rattle.unit.proofs.samples.sample.Reads as sample
 use Rattle.unit.proofs.start.fresh.Reads as fresh
 use Rattle.unit.proofs.time.elapsed.Reads as elapsed
 
 pub one-heed : (c : Config) (e : Event) (k l m : Kept) (a b : Answer) → Heeds c e k l a → Heeds c e k m b → (a ≡ b) × (l ≡ m)
 one-heed c e k l m a b x y = (
   x .answered ∙ sym (y .answered),
-  kept-same c l m (x .next ∙ sym (y .next)) (x .changed .moved ∙ sym (y .changed .moved)) (x .changed .counted ∙ sym (y .changed .counted)),
+  kept-same c l m (x .next ∙ sym (y .next)) (x .changed .moved ∙ sym (y .changed .moved)) (x .changed .counted ∙ sym (y .changed .counted)) (x .taken ∙ sym (y .taken)),
 )
 
--- elapsed, set_word, set_value, pulses, store_record: a memory that was lent is characters, as long as a unit
+-- elapsed, set_word, set_value, pulses, store_record, sample: a memory that was lent is characters, as long as a unit
 pub one-event : (e : Event) (x y z : Owned) {a b : Answer} → length (x .unit) ≡ unitLong → Characters (y .unit) → Characters (z .unit)
     → EventPromise e x y a → EventPromise e x z b → (a ≡ b) × (y ≡ z)
 one-event e x y z {a} {b} l p q t u =
@@ -79,6 +80,15 @@ one-store-record-unit κ a x y s t g h p q = ap (λ (z : Owned). z .unit) (one-e
 
 pub one-store-record-records : OneWhere (λ κ a s. (length (a .0 .now) ≡ unitLong) × Characters (s .0 .now)) store-record.Post (λ κ r s. s .1 .1 .0 .now)
 one-store-record-records κ a x y s t g h p q = ap (λ (z : Owned). z .area) (one-event _ _ _ _ (g .0) (g .1) (h .1) p q .1)
+
+pub one-sample : OneWhere (λ κ a s. (length (a .0 .now) ≡ unitLong) × Characters (s .0 .now)) sample.Post (λ κ r s. r)
+one-sample κ a x y s t g h p q = one-event _ _ _ _ (g .0) (g .1) (h .1) (p .0) (q .0) .0
+
+pub one-sample-unit : OneWhere (λ κ a s. (length (a .0 .now) ≡ unitLong) × Characters (s .0 .now)) sample.Post (λ κ r s. s .0 .now)
+one-sample-unit κ a x y s t g h p q = ap (λ (z : Owned). z .unit) (one-event _ _ _ _ (g .0) (g .1) (h .1) (p .0) (q .0) .1)
+
+pub one-sample-records : OneWhere (λ κ a s. (length (a .0 .now) ≡ unitLong) × Characters (s .0 .now)) sample.Post (λ κ r s. s .1 .1 .0 .now)
+one-sample-records κ a x y s t g h p q = ap (λ (z : Owned). z .area) (one-event _ _ _ _ (g .0) (g .1) (h .1) (p .0) (q .0) .1)
 
 pub one-fresh-unit : OneWhere (λ κ a s. (length (s .0 .now) ≡ unitLong) × Characters (s .0 .now)) fresh.Post (λ κ r s. s .0 .now)
 one-fresh-unit κ a x y s t g h p q = one-laid _ _ (g .0) (h .0) (g .1) (h .1) p q .0

@@ -1,3 +1,4 @@
 pub mod Events
 pub mod Fresh
 pub mod Calls
+pub mod Samples

@@ -21,12 +21,13 @@ pub enum Aim {
     SetWord,
     Contact,
     SetValue,
+    Sample,
     Pulses,
     Store,
 }
 
 /// Each function with its name and the outcomes that a call of it can have, besides those of every stretch.
-pub const AIMS: [(Aim, &str, &[u8]); 20] = [
+pub const AIMS: [(Aim, &str, &[u8]); 21] = [
     (Aim::Inputs, "00", &[0, 6, 7, 12]),
     (Aim::Tables, "0A", &[0, 6, 7, 8, 9, 12]),
     (Aim::AllValues, "03/80", &[0, 6, 7, 9, 12]),
@@ -45,6 +46,7 @@ pub const AIMS: [(Aim, &str, &[u8]); 20] = [
     (Aim::SetWord, "word", &[0, 8, 17]),
     (Aim::Contact, "contact", &[0, 8, 17]),
     (Aim::SetValue, "value", &[0, 8, 17]),
+    (Aim::Sample, "sample", &[0, 8, 17]),
     (Aim::Pulses, "pulses", &[0, 8, 17]),
     (Aim::Store, "store", &[0, 1, 2, 3, 17]),
 ];
@@ -57,7 +59,13 @@ impl Aim {
     pub fn by_stretch(self) -> bool {
         !matches!(
             self,
-            Aim::Elapsed | Aim::SetWord | Aim::Contact | Aim::SetValue | Aim::Pulses | Aim::Store
+            Aim::Elapsed
+                | Aim::SetWord
+                | Aim::Contact
+                | Aim::SetValue
+                | Aim::Sample
+                | Aim::Pulses
+                | Aim::Store
         )
     }
 }

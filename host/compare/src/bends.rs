@@ -2,6 +2,7 @@
 
 use crate::board::{header, Lent, BLOCK};
 use crate::event::{Change, Hold};
+use crate::means::{self, place_of};
 use crate::pair::Pair;
 use crate::rng::Rng;
 use crate::shapes;
@@ -14,7 +15,7 @@ const HOLD: u32 = header::HOLD_MS as u32;
 type Bend = fn(&mut Rng, &Pair) -> Option<Change>;
 
 /// Each field with what puts it out of range; none where the configuration leaves no room for it.
-pub const BENDS: [(&str, Bend); 23] = [
+pub const BENDS: [(&str, Bend); 25] = [
     ("day", |rng, p| {
         clock(p, |c| c.day = rng.pick(&[0, 367, 65_535]))
     }),
@@ -106,6 +107,17 @@ pub const BENDS: [(&str, Bend); 23] = [
             rng.pick(&[1, 2, header::ROOM, header::ROOM + 1]),
         );
         Some(Change::Records(file, shapes::records(rng, 1, many)))
+    }),
+    ("samples of a mean", |rng, p| {
+        let mean = means::any(rng, &p.equipment)?;
+        let many = mean.window.saturating_add(rng.pick(&[1, 2, 256]));
+        Some(Change::Samples(mean.calculation, vec![7; many.into()]))
+    }),
+    ("samples of no mean", |rng, p| {
+        let unused = p.equipment.means.iter().any(|m| !m.used());
+        let (number, many) = (rng.byte() % 128, rng.pick(&[1, 2, 256]));
+        let change = Change::Samples(number, vec![7; many]);
+        Some(change).filter(|_| unused && place_of(p, number).is_none())
     }),
     ("block's length", |rng, p| {
         let length = p.lent.block;

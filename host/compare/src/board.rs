@@ -5,11 +5,12 @@ pub mod header {
     include!(concat!(env!("OUT_DIR"), "/header.rs"));
 }
 
-use header::{CONFIG, FILES, INPUTS, KEPT, UNIT};
+use crate::means::Place;
+use header::{CONFIG, FILES, INPUTS, KEPT, MEANS, UNIT};
 
-/// The memory set aside for a parameter block, and for records: more than any unit has, to lend too much.
+/// The memory set aside for a parameter block, and for records and samples: more than any unit has, to lend too much.
 pub const BLOCK: usize = header::BLOCK + 88;
-pub const RECORDS: usize = header::RECORDS + 64;
+pub const RECORDS: usize = header::LENT + 64;
 
 /// What a configuration says, before it is laid out as characters.
 #[derive(Clone)]
@@ -22,6 +23,7 @@ pub struct Equipment {
     pub files: [u8; FILES],
     pub values: [u8; FILES],
     pub oldest: [u8; FILES],
+    pub means: [Place; MEANS],
 }
 
 /// How much of what is set aside is lent.
@@ -45,13 +47,14 @@ pub struct Unit {
     pub records: [u8; RECORDS],
 }
 
-/// `struct osturdam_turned`.
+/// `struct osturdam_turned`, and of a sample the characters that it tells.
 #[derive(Clone, Copy, Debug, PartialEq)]
 pub struct Turned {
     pub sent: usize,
     pub outcome: u8,
     pub action: u8,
     pub output: u8,
+    pub sampled: [u8; 6],
 }
 
 #[rustfmt::skip] // as the header has them: what is lent, then the event
@@ -83,6 +86,9 @@ extern "C" {
     fn osturdam_store_record(
         unit: &mut [u8; UNIT], block: *const u8, length: u64, records: *mut u8, room: u64,
         file: u8, event: u8, values: *const u16, many: u64) -> u8;
+    fn osturdam_sample(
+        unit: &mut [u8; UNIT], block: *const u8, length: u64, records: *mut u8, room: u64,
+        calculation: u8, sampled: &mut [u8; 6]) -> u8;
 }
 
 /// The number of the library's layout.
@@ -131,6 +137,7 @@ impl Turned {
             outcome,
             action: 0,
             output: 0,
+            sampled: [0; 6],
         }
     }
 }
@@ -147,6 +154,7 @@ impl Equipment {
             files: [0; FILES],
             values: [0; FILES],
             oldest: [0; FILES],
+            means: [Place::UNUSED; MEANS],
         }
     }
 
@@ -165,6 +173,10 @@ impl Equipment {
         lay(header::AT_FILES, &self.files);
         lay(header::AT_VALUES, &self.values);
         lay(header::AT_OLDEST, &self.oldest);
+        lay(header::AT_MEANS, &self.means.map(|p| p.calculation));
+        lay(header::AT_SAMPLED, &self.means.map(|p| p.analog));
+        let windows = self.means.map(|p| p.window.to_le_bytes());
+        lay(header::AT_WINDOWS, windows.as_flattened());
         made
     }
 }
@@ -218,6 +230,11 @@ impl Memory {
         unsafe { osturdam_dropped(&self.chars, file) }
     }
 
+    /// How many samples of a place are in.
+    pub fn taken(&self, place: usize) -> u16 {
+        word_at(&self.chars, header::AT_TAKEN + 2 * place)
+    }
+
     /// How many records a file holds.
     pub fn count(&self, file: usize) -> u8 {
         self.chars[header::AT_COUNTS + file]
@@ -269,6 +286,7 @@ impl Unit {
             outcome,
             action: told[2],
             output: told[3],
+            sampled: [0; 6],
         }
     }
 
@@ -295,6 +313,23 @@ impl Unit {
     pub fn set_value(&mut self, lent: Lent, calculation: u8, value: u32) -> u8 {
         let records = place(&self.records[..lent.records]);
         call!(osturdam_set_value, self, lent, records, calculation, value)
+    }
+
+    pub fn sample(&mut self, lent: Lent, calculation: u8) -> Turned {
+        let mut sampled = [0xA5; 6];
+        let records = place_mut(&mut self.records[..lent.records]);
+        let outcome = call!(
+            osturdam_sample,
+            self,
+            lent,
+            records,
+            calculation,
+            &mut sampled
+        );
+        Turned {
+            sampled,
+            ..Turned::silent(outcome)
+        }
     }
 
     pub fn store(&mut self, lent: Lent, file: u8, event: u8, given: &[u16]) -> u8 {

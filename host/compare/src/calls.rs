@@ -21,6 +21,7 @@ pub fn call(rng: &mut Rng, pair: &Pair, aim: Aim) -> Event {
         Aim::SetWord => Event::Word(number(rng, &c.inputs), rng.word()),
         Aim::Contact => contact(rng, c),
         Aim::SetValue => Event::Value(number(rng, &c.calculations), rng.long()),
+        Aim::Sample => Event::Sample(mean(rng, c)),
         Aim::Pulses => Event::Pulses(accumulator(rng, c), count(rng)),
         Aim::Store => store(rng, c),
         Aim::Both => {
@@ -46,6 +47,15 @@ fn number(rng: &mut Rng, equipped: &[bool; 256]) -> u8 {
         .map(|i| start.wrapping_add(i))
         .find(|&n| equipped[usize::from(n)])
         .unwrap_or(start)
+}
+
+/// Mostly a mean.
+fn mean(rng: &mut Rng, c: &Config) -> u8 {
+    let means: Vec<u8> = c.means.iter().map(|m| m.calculation.0).collect();
+    match rng.pick_any(&means) {
+        Some(n) if rng.percent(90) => n,
+        _ => number(rng, &c.calculations),
+    }
 }
 
 /// Mostly an equipped accumulator.

@@ -32,6 +32,8 @@ pub enum Change {
     /// The contacts of a group that have changed since its last reply.
     Changed(u8, u8),
     Value(u8, u32),
+    /// The samples of a calculation.
+    Samples(u8, Vec<i16>),
     Fixed(usize, Vec<u8>),
     Block(usize, Vec<u8>),
     Records(usize, Vec<Vec<u8>>),
@@ -52,6 +54,7 @@ pub enum Event {
     Contact(u8, u8),
     Pulses(u8, u16),
     Value(u8, u32),
+    Sample(u8),
     Store {
         file: u8,
         event: u8,
@@ -79,6 +82,7 @@ impl fmt::Display for Change {
             Change::Word(number, word) => write!(f, "word {number:02X}h is {word}"),
             Change::Changed(group, bits) => write!(f, "changed of group {group} is {bits:02X}h"),
             Change::Value(number, value) => write!(f, "value {number:02X}h is {value:08X}h"),
+            Change::Samples(number, samples) => write!(f, "samples of {number:02X}h: {samples:?}"),
             Change::Fixed(at, bytes) => write!(f, "fixed area from {at}: {}", hex(bytes)),
             Change::Block(at, bytes) => write!(f, "parameter block from {at}: {}", hex(bytes)),
             Change::Records(file, held) => {
@@ -106,6 +110,7 @@ impl fmt::Display for Event {
             Event::Contact(number, state) => write!(f, "contact {number} is {state}"),
             Event::Pulses(number, count) => write!(f, "pulses {number:02X}h: {count}"),
             Event::Value(number, value) => write!(f, "set value {number:02X}h to {value:08X}h"),
+            Event::Sample(number) => write!(f, "sample {number:02X}h"),
             Event::Store {
                 file,
                 event,

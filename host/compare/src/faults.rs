@@ -17,7 +17,7 @@ pub struct Fault {
 }
 
 /// The faults, one for each kind of thing that is compared.
-pub static FAULTS: [Fault; 17] = [
+pub static FAULTS: [Fault; 23] = [
     Fault {
         name: "a select held by another is told as none",
         most: 2,
@@ -161,6 +161,62 @@ pub static FAULTS: [Fault; 17] = [
         },
     },
     Fault {
+        name: "a sum of 0 gives minus zero",
+        most: 3,
+        plant: |e, _, _, u, t, _| {
+            if is_mean(e, t) && t.sampled == [0; 6] {
+                turn_sign(e, u, t);
+            }
+        },
+    },
+    Fault {
+        name: "a mean below 0 is told as above",
+        most: 2,
+        plant: |e, _, _, u, t, _| {
+            if is_mean(e, t) && t.sampled[5] & 0x80 != 0 {
+                turn_sign(e, u, t);
+            }
+        },
+    },
+    Fault {
+        name: "one sample fewer is told as missing",
+        most: 1,
+        plant: |e, _, _, _, t, _| {
+            if matches!(e, Event::Sample(_)) && t.sampled[0] > 1 {
+                t.sampled[0] -= 1;
+            }
+        },
+    },
+    Fault {
+        name: "a sample writes behind all samples",
+        most: 1,
+        plant: |e, _, p, u, t, _| {
+            if matches!(e, Event::Sample(_)) && t.outcome == 0 {
+                u.records[p.room] ^= 1;
+            }
+        },
+    },
+    Fault {
+        name: "a stored record changes a sample",
+        most: 2,
+        plant: |e, _, p, u, t, _| {
+            if matches!(e, Event::Store { .. }) && t.outcome == 0 && p.room > p.records {
+                u.records[p.records] ^= u8::from(u.memory.taken(0) > 0);
+            }
+        },
+    },
+    Fault {
+        name: "a start by the line forgets the samples",
+        most: 2,
+        plant: |e, _, _, u, t, _| {
+            if matches!(e, Event::Stretch { bytes, .. } if t.outcome == 0 && bytes[2..4] == [0x20, 0x00])
+            {
+                let taken = header::AT_TAKEN..header::AT_TAKEN + 2 * header::MEANS;
+                u.memory.chars[taken].fill(0);
+            }
+        },
+    },
+    Fault {
         name: "an accumulator that counts changes the configuration",
         most: 1,
         plant: |e, _, _, u, t, _| {
@@ -175,6 +231,19 @@ pub static FAULTS: [Fault; 17] = [
 fn set_with_lag(event: &Event, turned: &Turned) -> bool {
     matches!(event, Event::Stretch { bytes, lag: 1.., .. } if bytes.len() == 15 && bytes[2..4] == [0x20, 0x38])
         && (turned.outcome == 0 || turned.outcome == 4)
+}
+
+/// A sample made a mean.
+fn is_mean(event: &Event, turned: &Turned) -> bool {
+    matches!(event, Event::Sample(_)) && turned.outcome == 0 && turned.sampled[..2] == [0, 0]
+}
+
+/// The mean's sign, as it is told and as the value has it.
+fn turn_sign(event: &Event, unit: &mut Unit, turned: &mut Turned) {
+    if let Event::Sample(number) = event {
+        turned.sampled[5] ^= 0x80;
+        unit.memory.chars[header::AT_RESULTS + 4 * usize::from(*number) + 3] ^= 0x80;
+    }
 }
 
 /// The second that a Set Time sent.

@@ -1,7 +1,8 @@
 //! The independent unit's kept state as the proved unit's memory has it, and where the two differ.
 
-use crate::board::header::{self, CONFIG, FILES, INPUTS, KEPT, UNIT};
+use crate::board::header::{self, CONFIG, FILES, INPUTS, KEPT, MEANS, UNIT};
 use crate::board::{Equipment, Memory, Unit};
+use crate::means::{lay_taken, samples_difference, Place};
 use crate::places::Places;
 use independent::{Config, State};
 use std::fmt::Display;
@@ -15,6 +16,8 @@ pub fn config_of(e: &Equipment) -> Config {
         config.outputs[n] = e.outputs[n] != 0;
         config.calculations[n] = e.calculations[n] != 0;
     }
+    let used = e.means.iter().filter(|p| p.used());
+    config.means = used.map(Place::mean).collect();
     for f in 0..FILES {
         config.files[f] = (e.files[f] != 0).then_some(e.values[f]);
         config.oldest[f] = e.oldest[f] != 0;
@@ -78,6 +81,19 @@ pub fn kept_of(state: &State) -> [u16; KEPT] {
     kept
 }
 
+/// The places for means in a configuration's characters.
+fn means_in(config: &[u8; CONFIG]) -> [Place; MEANS] {
+    let at = |region: usize, i: usize| config[region - header::AT_NUMBER + i];
+    std::array::from_fn(|i| Place {
+        calculation: at(header::AT_MEANS, i),
+        analog: at(header::AT_SAMPLED, i),
+        window: u16::from_le_bytes([
+            at(header::AT_WINDOWS, 2 * i),
+            at(header::AT_WINDOWS, 2 * i + 1),
+        ]),
+    })
+}
+
 /// A unit's memory with this configuration and state.
 pub fn memory_of(config: &[u8; CONFIG], state: &State) -> Memory {
     let mut made = Memory::filled(0);
@@ -97,6 +113,7 @@ pub fn memory_of(config: &[u8; CONFIG], state: &State) -> Memory {
         state.dropped.map(u16::to_le_bytes).as_flattened(),
     );
     made.lay(header::AT_CHANGED, &state.changed);
+    lay_taken(&mut made, &means_in(config), state);
     made.lay(header::AT_00, &state.fixed.block_00);
     made.lay(header::AT_03, &state.fixed.block_03);
     made.lay(header::AT_0B, &state.fixed.block_0b);
@@ -170,6 +187,7 @@ pub fn difference(
         .flatten()
         .or_else(|| first("parameter block at", &unit.block, params))
         .or_else(|| records_difference(state, places, unit))
+        .or_else(|| samples_difference(state, places, unit))
 }
 
 fn records_difference(state: &State, places: &Places, unit: &Unit) -> Option<String> {

@@ -12,6 +12,7 @@ mod faults;
 mod frames;
 mod image;
 mod known;
+mod means;
 mod pair;
 mod places;
 mod poll;

@@ -1,13 +1,14 @@
 //! Both units side by side: each event goes to both, and everything is compared.
 
-use crate::board::header::{self, CONFIG, GROUPS, KEPT, REPLY};
+use crate::board::header::{self, CONFIG, GROUPS, KEPT, MEANS, REPLY};
 use crate::board::{room, valid, Equipment, Lent, Turned, Unit};
 use crate::event::{hex, Change, Event, Hold};
 use crate::faults::Fault;
 use crate::image::{config_of, difference, memory_of, put_file};
+use crate::means::{self, put_samples};
 use crate::places::Places;
 use crate::scene::Scene;
-use independent::{Action, Answer, Config, State};
+use independent::{Action, Answer, Config, Sampled, State};
 
 /// The longest buffer lent.
 pub const BUFFER: usize = REPLY + 80;
@@ -37,6 +38,10 @@ pub struct Pair {
     pub before: [u16; KEPT],
     /// The words and the changed contacts of the groups before the latest event.
     pub groups: [(u16, u8); GROUPS],
+    /// How many samples of each mean were in before the latest event.
+    pub taken: [u16; MEANS],
+    /// What the latest sample came to, if that was the latest event and it was taken.
+    pub sampled: Option<Sampled>,
     /// Whether the file of the latest record to store was full.
     pub full: bool,
     /// The configuration as characters: no event changes one.
@@ -76,6 +81,7 @@ impl Pair {
         } else {
             unit.memory = memory_of(&chars, &scene.state);
             (0..header::FILES).for_each(|file| put_file(&scene.state, &places, &mut unit, file));
+            put_samples(&scene.state, &places, &mut unit);
         }
         if let Some(found) = difference(&chars, &places, &scene.state, &scene.params, &unit) {
             return Err(format!("at the start: {found}"));
@@ -88,6 +94,8 @@ impl Pair {
             places,
             before: unit.memory.all_kept(),
             groups: [(0, 0); GROUPS],
+            taken: [0; MEANS],
+            sampled: None,
             full: false,
             chars,
             params: scene.params.clone(),
@@ -116,6 +124,8 @@ impl Pair {
         self.other[..sent].copy_from_slice(&PATTERN[..sent]);
         self.before = self.unit.memory.all_kept();
         self.groups = std::array::from_fn(|g| (self.state.words[g], self.state.changed[g]));
+        self.taken = means::taken(&self.unit.memory);
+        self.sampled = None;
         self.full = full(event, &self.state);
         let mut turned = proved(&mut self.unit, self.lent, &mut self.reply, event);
         if let Some(fault) = self.fault {
@@ -149,6 +159,13 @@ impl Pair {
             Event::Contact(number, on) => independent::contact(c, s, params, *number, *on),
             Event::Pulses(number, count) => independent::pulses(c, s, params, *number, *count),
             Event::Value(number, value) => independent::set_value(c, s, params, *number, *value),
+            Event::Sample(number) => match independent::sample(c, s, params, *number) {
+                Ok(sampled) => {
+                    self.sampled = Some(sampled);
+                    header::DONE as u8
+                }
+                Err(refused) => refused,
+            },
             Event::Store {
                 file,
                 event,
@@ -178,6 +195,13 @@ impl Pair {
             return Some(format!(
                 "action: proved {:?}, independent {action:?}",
                 (turned.action, turned.output)
+            ));
+        }
+        if turned.sampled != means::characters(self.sampled) {
+            return Some(format!(
+                "sample: proved {}, independent {:?}",
+                hex(&turned.sampled),
+                self.sampled
             ));
         }
         if turned.sent != answer.sent {
@@ -218,21 +242,25 @@ impl Pair {
             .then(|| format!("dropped: proved {proved}, independent {independent}"))
     }
 
-    /// Only a record stored or released may change characters of records, those of no record too; nothing may those behind what is asked for.
+    /// Only a record stored or released may change characters of records, those of no record too, and only a sample those of its window;
+    /// nothing may those behind what is asked for.
     fn records_differ(&mut self, event: &Event, outcome: u8) -> Option<String> {
-        let moves = match event {
+        let moved = match event {
             Event::Stretch { bytes, .. } => {
-                outcome == 0 && bytes[2] == 0x04 && bytes[3] & 0x40 != 0
+                let moves = outcome == 0 && bytes[2] == 0x04 && bytes[3] & 0x40 != 0;
+                moves.then_some(0..self.places.records)
             }
-            Event::Store { .. } => outcome == 0,
+            Event::Store { .. } => (outcome == 0).then_some(0..self.places.records),
+            Event::Sample(number) => means::place_of(self, *number)
+                .filter(|_| outcome == 0)
+                .and_then(|place| self.places.window(place)),
             _ => return None,
         };
         let (was, is) = (&mut self.records, &self.unit.records);
-        if moves {
-            let room = self.places.room;
-            was[..room].copy_from_slice(&is[..room]);
+        if let Some(part) = moved {
+            was[part.clone()].copy_from_slice(&is[part]);
         }
-        (!same(was, is)).then(|| "a character of no record changed".to_string())
+        (!same(was, is)).then(|| "a character of no record or sample changed".to_string())
     }
 
     /// Changes the kept state of both.
@@ -259,6 +287,11 @@ impl Pair {
             Change::Word(number, word) => s.words[usize::from(*number)] = *word,
             Change::Changed(group, bits) => s.changed[usize::from(*group)] = *bits,
             Change::Value(number, value) => s.values[usize::from(*number)] = *value,
+            Change::Samples(number, samples) => {
+                s.samples[usize::from(*number)] = samples.clone();
+                put_samples(s, &self.places, u);
+                self.records.copy_from_slice(&u.records);
+            }
             Change::Fixed(at, bytes) => put_in_fixed(s, *at, bytes),
             Change::Block(at, bytes) => self.params[*at..*at + bytes.len()].copy_from_slice(bytes),
             Change::Records(file, held) => {
@@ -292,6 +325,7 @@ pub fn proved(u: &mut Unit, lent: Lent, buffer: &mut [u8], event: &Event) -> Tur
         Event::Contact(number, state) => u.contact(lent, *number, *state),
         Event::Pulses(number, count) => u.pulses(lent, *number, *count),
         Event::Value(number, value) => u.set_value(lent, *number, *value),
+        Event::Sample(number) => return u.sample(lent, *number),
         Event::Store {
             file,
             event,

@@ -4,13 +4,14 @@
 use crate::board::header::{CONFIG, UNIT};
 use crate::board::{layout, room, valid, Unit, BLOCK, RECORDS};
 use crate::event::Event;
+use crate::means::characters;
 use crate::pair::{Pair, BUFFER};
 use crate::runs::Run;
 use independent::Answer;
 use std::io::{Result, Write};
 
 /// What stands first: another number where the writing changes.
-const MARK: &[u8] = b"osturdam recording 4\n";
+const MARK: &[u8] = b"osturdam recording 5\n";
 /// Equal characters that part two changes.
 const APART: usize = 5;
 
@@ -30,6 +31,7 @@ enum Line {
     Value = 10,
     Store = 11,
     Contact = 12,
+    Sample = 13,
 }
 
 /// A recording that is being written.
@@ -136,6 +138,7 @@ impl<W: Write> Recording<W> {
             Event::Contact(number, state) => self.point(Line::Contact, *number, &[*state]),
             Event::Pulses(number, count) => self.point(Line::Pulses, *number, &count.to_le_bytes()),
             Event::Value(number, value) => self.point(Line::Value, *number, &value.to_le_bytes()),
+            Event::Sample(number) => self.point(Line::Sample, *number, &[]),
             Event::Store {
                 file,
                 event,
@@ -156,9 +159,12 @@ impl<W: Write> Recording<W> {
         self.out.write_all(chars)
     }
 
-    /// The outcome; of a stretch also what it does and sends.
+    /// The outcome; of a stretch also what it does and sends, of a sample the mean or how many are missing.
     fn answer(&mut self, event: &Event, answer: &Answer, pair: &Pair) -> Result<()> {
         self.out.write_all(&[answer.outcome])?;
+        if matches!(event, Event::Sample(_)) {
+            return self.out.write_all(&characters(pair.sampled));
+        }
         if !matches!(event, Event::Stretch { .. }) {
             return Ok(());
         }

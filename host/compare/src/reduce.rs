@@ -1,9 +1,10 @@
 //! Makes a failing run short: events are left out, and what the start holds, as long as the two units still differ.
 
-use crate::board::header::{self, FILES, GROUPS, INPUTS};
+use crate::board::header::{self, FILES, GROUPS, INPUTS, MEANS};
 use crate::board::BLOCK;
 use crate::event::Event;
 use crate::faults::Fault;
+use crate::means::Place;
 use crate::pair::Pair;
 use crate::runs::Run;
 use crate::scene::Scene;
@@ -86,6 +87,9 @@ fn simpler_start(failure: &mut Run, fault: Option<&'static Fault>) {
         try_start(failure, fault, |s| s.equipment.files[file] = 0);
         try_start(failure, fault, |s| s.equipment.oldest[file] = 1);
     }
+    for place in 0..MEANS {
+        try_start(failure, fault, |s| s.equipment.means[place] = Place::UNUSED);
+    }
     for at in (0..INPUTS).step_by(16) {
         try_start(failure, fault, |s| s.equipment.inputs[at..at + 16].fill(0));
         try_start(failure, fault, |s| s.equipment.outputs[at..at + 16].fill(0));
@@ -106,7 +110,7 @@ fn try_start(failure: &mut Run, fault: Option<&'static Fault>, simpler: impl Fn(
 }
 
 /// Ways to make a start simpler; the first makes all of it so.
-const SIMPLER: [fn(&mut Scene); 15] = [
+const SIMPLER: [fn(&mut Scene); 16] = [
     |s| {
         s.state = State::fresh();
         s.params = vec![0; BLOCK];
@@ -114,11 +118,12 @@ const SIMPLER: [fn(&mut Scene); 15] = [
     },
     |s| s.params = vec![0; BLOCK],
     |s| (s.lent.block, s.equipment.length) = (0, 0),
-    |s| s.lent.records = header::RECORDS,
+    |s| s.lent.records = header::LENT,
     |s| s.state.words = [0; 256],
     |s| s.state.values = [0; 128],
     |s| s.state.dropped = [0; FILES],
     |s| s.state.changed = [0; GROUPS],
+    |s| s.state.samples = State::fresh().samples,
     |s| s.state.fixed = FixedArea::EMPTY,
     |s| (s.state.select, s.state.timed_out) = (None, None),
     |s| s.state.write = None,

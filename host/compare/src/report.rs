@@ -13,6 +13,7 @@ use independent::State;
 /// Prints where a run starts, its events, and where the two units differ.
 pub fn print(failure: &Run, fault: Option<&'static Fault>) {
     print_equipment(&failure.scene.equipment);
+    print_means(&failure.scene.equipment);
     print_start(&failure.scene);
     for (i, event) in failure.events.iter().enumerate() {
         println!("  {}. {event}", i + 1);
@@ -45,6 +46,14 @@ fn print_equipment(e: &Equipment) {
         numbers(&e.calculations),
         listed(&files)
     );
+}
+
+/// The means with their analogs and how many samples each is over.
+fn print_means(e: &Equipment) {
+    let means: Vec<String> = (e.means.iter().filter(|p| p.used()))
+        .map(|p| format!("{:02X} of {} of {:02X}", p.calculation, p.window, p.analog))
+        .collect();
+    println!("  means {}", listed(&means));
 }
 
 fn listed(items: &[String]) -> String {
@@ -105,6 +114,10 @@ fn print_areas(s: &State, block: &[u8]) {
         .filter(|(_, part)| part.iter().any(|&b| b != 0))
     {
         println!("  {name}: {}", hex(part));
+    }
+    let samples = s.samples.iter().enumerate();
+    for (number, samples) in samples.filter(|(_, samples)| !samples.is_empty()) {
+        println!("  samples of {number:02X}: {samples:?}");
     }
     for (file, held) in (0..FILES)
         .zip(&s.files)

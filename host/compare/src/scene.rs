@@ -1,7 +1,8 @@
 //! Where a run starts: a random configuration, and a kept state of every shape that fits it.
 
-use crate::board::header::{self, CALCULATIONS, FILES, INPUTS};
+use crate::board::header::{self, CALCULATIONS, FILES, INPUTS, MEANS};
 use crate::board::{Equipment, Lent, BLOCK, RECORDS};
+use crate::means::{self, Place};
 use crate::places::Places;
 use crate::rng::Rng;
 use crate::shapes;
@@ -63,7 +64,7 @@ impl Scene {
 type Spoil = fn(&mut Rng, &mut Scene);
 
 /// The ways in which a configuration is not valid.
-pub const FAULTY: [(&str, Spoil); 8] = [
+pub const FAULTY: [(&str, Spoil); 13] = [
     ("unit over 7FEh", |rng, s| {
         s.equipment.unit = rng.pick(&[0x7FF, 0x800, 0xFFFF])
     }),
@@ -89,7 +90,56 @@ pub const FAULTY: [(&str, Spoil); 8] = [
     ("block far over 512", |rng, s| {
         s.equipment.length = rng.pick(&[0x300, 0x8000, 0xFFFF])
     }),
+    ("mean over another number of samples", |rng, s| {
+        let window = rng.pick(&[3, 5, 255, 257, 512, 0x8000, 0xFFFF]);
+        spoil_mean(rng, s, |mean| mean.window = window);
+    }),
+    ("mean named twice", |rng, s| {
+        let (one, other) = (rng.below(MEANS / 2), rng.between(MEANS / 2, MEANS - 1));
+        let mean = equip_mean(s, one);
+        s.equipment.means[other] = Place {
+            window: rng.pick(&[1, 2, 256]),
+            ..mean
+        };
+    }),
+    ("mean of a calculation not equipped", |rng, s| {
+        let number = rng.byte();
+        s.equipment.calculations[usize::from(number)] = 0;
+        spoil_mean(rng, s, |mean| mean.calculation = number);
+    }),
+    ("mean of an analog not equipped", |rng, s| {
+        let number = rng.between(0x80, 0xFF) as u8;
+        s.equipment.inputs[usize::from(number)] = 0;
+        spoil_mean(rng, s, |mean| mean.analog = number);
+    }),
+    ("mean of an input of another kind", |rng, s| {
+        let number = rng.pick(&[0x00, 0x1F, 0x30, 0x3F, 0x40, 0x5F]);
+        s.equipment.inputs[usize::from(number)] = 1;
+        spoil_mean(rng, s, |mean| mean.analog = number);
+    }),
 ];
+
+/// A good mean at a place, whatever it was.
+fn equip_mean(scene: &mut Scene, place: usize) -> Place {
+    let e = &mut scene.equipment;
+    let named = |n: u8| e.means.iter().any(|p| p.used() && p.calculation == n);
+    let number = (0..CALCULATIONS as u8).find(|&n| !named(n)).unwrap_or(0);
+    e.calculations[usize::from(number)] = 1;
+    e.inputs[0x80] = 1;
+    e.means[place] = Place {
+        calculation: number,
+        analog: 0x80,
+        window: 1,
+    };
+    e.means[place]
+}
+
+/// The same with something wrong in it.
+fn spoil_mean(rng: &mut Rng, scene: &mut Scene, spoil: impl Fn(&mut Place)) {
+    let place = rng.below(MEANS);
+    equip_mean(scene, place);
+    spoil(&mut scene.equipment.means[place]);
+}
 
 fn equip_file(scene: &mut Scene, file: usize, values: u8) {
     scene.equipment.files[file] = 1;
@@ -119,6 +169,7 @@ fn equipment(rng: &mut Rng) -> Equipment {
     equip(rng, &mut made.outputs, some, |_| true);
     equip_calculations(rng, &mut made.calculations);
     equip_files(rng, &mut made);
+    means::equip(rng, &mut made);
     made
 }
 
@@ -152,15 +203,7 @@ fn equip_calculations(rng: &mut Rng, table: &mut [u8; INPUTS]) {
 /// Often just what is asked for, else more: a little, as much as any unit asks for, or all that is set aside.
 fn room(rng: &mut Rng, asked: usize) -> usize {
     let any = rng.between(asked, RECORDS);
-    rng.pick(&[
-        asked,
-        asked,
-        asked,
-        asked + 1,
-        any,
-        header::RECORDS,
-        RECORDS,
-    ])
+    rng.pick(&[asked, asked, asked, asked + 1, any, header::LENT, RECORDS])
 }
 
 /// None, a few or all; sizes at which a dump just fits, or just does not, are common. Others have any number of values.

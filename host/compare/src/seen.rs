@@ -4,13 +4,14 @@ use crate::board::header::*;
 use crate::event::Event;
 use crate::frames::VERY_LONG;
 use crate::known::*;
+use crate::means::*;
 use crate::pair::Pair;
-use independent::Answer;
+use independent::{Answer, Sampled};
 
 type Known = fn(&Event, &Pair, &Answer) -> bool;
 
 /// What must have been seen.
-pub const SEEN: [(&str, Known); 82] = [
+pub const SEEN: [(&str, Known); 103] = [
     ("reply of 511 data characters", |_, _, a| a.sent == REPLY),
     ("table scan of 255 words", |_, p, a| {
         a.sent == REPLY - 1 && p.reply()[2] == 0x0A
@@ -80,10 +81,10 @@ pub const SEEN: [(&str, Known); 82] = [
         |e, _, _| matches!(e, Event::Stretch { room, .. } if *room == REPLY - 1),
     ),
     ("more room lent than any unit asks for", |_, p, a| {
-        p.lent.records > RECORDS && a.outcome == DONE as u8
+        p.lent.records > LENT && a.outcome == DONE as u8
     }),
     ("more room lent than asked for", |_, p, a| {
-        p.lent.records > p.places.room && p.lent.records < RECORDS && a.outcome == DONE as u8
+        p.lent.records > p.places.room && p.lent.records < LENT && a.outcome == DONE as u8
     }),
     ("room exactly as asked for", |_, p, a| {
         exact(p) && a.outcome == DONE as u8
@@ -250,6 +251,73 @@ pub const SEEN: [(&str, Known); 82] = [
     }),
     ("marks kept by a scan of other kinds", |e, p, a| {
         scans(e, a, 0x00) && heard(e)[3] & 0x04 == 0 && waiting(p)
+    }),
+    ("first sample of a mean", |e, p, a| {
+        sampled(e, p, a).is_some_and(|(window, before, _)| before == 0 && window > 1)
+    }),
+    ("sample that leaves one missing", |e, p, a| {
+        sampled(e, p, a).is_some_and(|(_, _, s)| s == Sampled::Missing(1))
+    }),
+    ("sample that makes a mean ready", |e, p, a| {
+        sampled(e, p, a).is_some_and(|(window, before, _)| window > 1 && before + 1 == window)
+    }),
+    ("sample for which the oldest goes", |e, p, a| {
+        sampled(e, p, a).is_some_and(|(window, before, _)| window > 1 && before == window)
+    }),
+    ("mean of 1 sample", |e, p, a| {
+        ready(e, p, a).is_some_and(|(window, _)| window == 1)
+    }),
+    ("mean of 256 samples", |e, p, a| {
+        ready(e, p, a).is_some_and(|(window, _)| usize::from(window) == SAMPLES)
+    }),
+    ("mean of 0 over samples that are not", |e, p, a| {
+        ready(e, p, a).is_some_and(|(window, mean)| mean == 0.0 && window > 1) && !idle(e, p)
+    }),
+    ("mean below 0 that is no whole number", |e, p, a| {
+        ready(e, p, a).is_some_and(|(_, mean)| mean < 0.0 && mean.fract() != 0.0)
+    }),
+    ("mean of -32,768 all through", |e, p, a| {
+        all_through(e, p, a, i16::MIN)
+    }),
+    ("mean of 32,767 all through", |e, p, a| {
+        all_through(e, p, a, i16::MAX)
+    }),
+    ("sample of an analog that two means have", |e, p, a| {
+        sampled(e, p, a).is_some() && shares(e, p)
+    }),
+    (
+        "sample of an equipped calculation that is no mean",
+        |e, p, a| matches!(e, Event::Sample(n) if p.config.calculations[usize::from(*n)] && not_valid(a)),
+    ),
+    (
+        "sample of a calculation not equipped",
+        |e, p, a| matches!(e, Event::Sample(n) if !p.config.calculations[usize::from(*n)] && not_valid(a)),
+    ),
+    (
+        "value of a mean refused",
+        |e, p, a| matches!(e, Event::Value(n, _) if place_of(p, *n).is_some() && not_valid(a)),
+    ),
+    ("mean not ready told as not equipped", |e, p, a| {
+        values(e, a, 0x00, NOT_VALID) && told_waiting(p) == 1
+    }),
+    (
+        "means not ready told as not equipped, and again",
+        |e, p, a| values(e, a, 0x00, NOT_VALID) && told_waiting(p) > 2,
+    ),
+    ("ready mean among the values asked for", |e, p, a| {
+        values(e, a, 0x00, DONE) && asked(e).iter().any(|&n| place_of(p, n).is_some())
+    }),
+    ("mean not ready skipped among all values", |e, p, a| {
+        values(e, a, 0x80, DONE) && any_waits(p)
+    }),
+    ("128 equipped, and 127 ready", |e, p, a| {
+        values(e, a, 0x80, DONE) && equipped(p) == CALCULATIONS && a.sent == REPLY - 3
+    }),
+    ("128 ready, means among them", |e, p, a| {
+        values(e, a, 0x80, TOO_LONG) && any_ready(p) && !any_waits(p)
+    }),
+    ("ready mean left by a start by the line", |e, p, a| {
+        a.outcome == DONE as u8 && heard(e).get(2..4) == Some(&[0x20, 0x00]) && any_ready(p)
     }),
     ("bit 7 cleared", |_, p, _| {
         p.before[STATUS_CONFIGURE] == 1 && p.unit.memory.kept(STATUS_CONFIGURE) == 0

@@ -3,6 +3,7 @@
 use crate::board::header::{self, FILES, INPUTS};
 use crate::board::{Equipment, BLOCK};
 use crate::event::Hold;
+use crate::means;
 use crate::rng::Rng;
 use independent::history::record_size;
 use independent::{Clock, HistoryReply, Select, State, Write};
@@ -40,6 +41,11 @@ pub fn state(rng: &mut Rng, e: &Equipment) -> State {
     }
     made.dropped = std::array::from_fn(|_| dropped(rng));
     made.changed = std::array::from_fn(|_| changed(rng));
+    for mean in e.means.iter().filter(|p| p.used()) {
+        let word = made.words[usize::from(mean.analog)];
+        let samples = means::samples(rng, mean.window, word);
+        made.samples[usize::from(mean.calculation)] = samples;
+    }
     made.history = memory(rng, e, &made);
     (made.silence, made.mark) = port(rng);
     made

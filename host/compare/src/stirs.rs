@@ -3,6 +3,7 @@
 use crate::aims::Aim;
 use crate::board::{header, BLOCK};
 use crate::event::{Change, Hold};
+use crate::means;
 use crate::pair::Pair;
 use crate::rng::Rng;
 use crate::shapes;
@@ -21,7 +22,9 @@ pub fn stirs(rng: &mut Rng, pair: &Pair, aim: Aim) -> Vec<Change> {
         Aim::Elapsed if rng.percent(70) => rng.pick(&[0, 1, 2, 5]),
         Aim::SetTime | Aim::ReadTime if rng.percent(20) => 0,
         Aim::Contact if rng.percent(10) => 13,
-        _ if rng.percent(6) => rng.below(14),
+        Aim::Sample if rng.percent(25) => 14,
+        Aim::AllValues | Aim::AskedValues if rng.percent(10) => 14,
+        _ if rng.percent(6) => rng.below(15),
         _ => return Vec::new(),
     };
     change(rng, pair, of_aim)
@@ -46,6 +49,7 @@ fn change(rng: &mut Rng, pair: &Pair, part: usize) -> Vec<Change> {
         8 => Change::Fixed(rng.below(header::FIXED - 7), rng.bytes(8)),
         9 => Change::Block(rng.below(BLOCK - 7), rng.bytes(8)),
         10 => return records(rng, pair),
+        14 => return samples(rng, pair),
         12 => return filled(rng, pair),
         _ => Change::Fixed(
             header::AT_03 - header::AT_FIXED,
@@ -85,6 +89,21 @@ fn records(rng: &mut Rng, pair: &Pair) -> Vec<Change> {
     made
 }
 
+/// Other samples of a mean, and often the analog at a limit.
+fn samples(rng: &mut Rng, pair: &Pair) -> Vec<Change> {
+    let Some(mean) = means::any(rng, &pair.equipment) else {
+        return Vec::new();
+    };
+    let any = rng.word();
+    let own = pair.state.words[usize::from(mean.analog)];
+    let word = rng.pick(&[own, any, 0, 0x8000, 0x7FFF]);
+    let samples = means::samples(rng, mean.window, word);
+    vec![
+        Change::Word(mean.analog, word),
+        Change::Samples(mean.calculation, samples),
+    ]
+}
+
 /// Every file full that has a place for it, and then a reply remembered from one of them, or none.
 fn filled(rng: &mut Rng, pair: &Pair) -> Vec<Change> {
     let (e, mut state) = (&pair.equipment, pair.state.clone());
@@ -114,6 +133,9 @@ pub fn undo(pair: &Pair, change: &Change) -> Change {
             silence: s.silence as u16,
             mark: s.mark,
         },
+        Change::Samples(number, _) => {
+            Change::Samples(*number, s.samples[usize::from(*number)].clone())
+        }
         Change::Records(file, _) => Change::Records(*file, s.files[*file].clone()),
         Change::Lent(_) => Change::Lent(pair.lent),
         other => other.clone(),

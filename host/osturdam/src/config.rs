@@ -1,7 +1,7 @@
 //! What a unit is equipped with.
 
 use crate::memory::{word_at, CONFIG};
-use crate::{header, raw, ControlOutput, File, Input, SpecialCalculation, ROOM};
+use crate::{header, raw, ControlOutput, File, Input, SpecialCalculation, MEANS, ROOM};
 
 /// An address that no unit has: with it every configuration is refused.
 const NO_UNIT: u16 = 0x7FF;
@@ -90,6 +90,30 @@ impl Config {
         self
     }
 
+    /// With a calculation that is the mean of the last samples of an analog: 1, 2, 4 up to [`SAMPLES`](crate::SAMPLES) of them. Both
+    /// numbers are equipped besides; each calculation is one mean at most, and there are [`MEANS`](crate::MEANS) of them at most.
+    ///
+    /// ```
+    /// use osturdam::{Config, Input, SpecialCalculation};
+    ///
+    /// let equipped = Config::new(1).input(Input(0x80)).calculation(SpecialCalculation(7));
+    /// assert!(equipped.clone().mean(SpecialCalculation(7), Input(0x80), 16).valid());
+    /// assert!(!equipped.clone().mean(SpecialCalculation(7), Input(0x80), 15).valid());
+    /// assert!(!equipped.mean(SpecialCalculation(7), Input(0x81), 16).valid());
+    /// ```
+    #[must_use]
+    pub fn mean(mut self, calculation: SpecialCalculation, analog: Input, samples: u16) -> Config {
+        let free = (0..MEANS as u8).find(|&place| self.window(place) == 0);
+        let Some(place) = free.filter(|_| samples > 0) else {
+            // no place says so, so the refusal is asked for by the address
+            self.put_word(header::AT_NUMBER, NO_UNIT);
+            return self;
+        };
+        self.put_word(header::AT_WINDOWS + 2 * u32::from(place), samples);
+        self.with(header::AT_MEANS, place, calculation.0)
+            .with(header::AT_SAMPLED, place, analog.0)
+    }
+
     /// With a parameter block of so many characters: 0 to [`BLOCK`](crate::BLOCK).
     #[must_use]
     pub fn block(mut self, length: usize) -> Config {
@@ -106,7 +130,7 @@ impl Config {
         raw::valid(self)
     }
 
-    /// How many characters of records a unit of it has: [`RECORDS`](crate::RECORDS) at most, if it is valid.
+    /// How many characters of records and samples a unit of it has: [`LENT`](crate::LENT) at most, if it is valid.
     ///
     /// ```
     /// use osturdam::{Config, File, ROOM};
@@ -126,6 +150,26 @@ impl Config {
             values.map_or(0, |v| header::RECORD_HEAD as usize + 2 * usize::from(v))
         };
         (ROOM * (0..file.0).map(size).sum::<usize>(), size(file.0))
+    }
+
+    /// The place of a calculation that is a mean.
+    pub(crate) fn mean_place(&self, calculation: SpecialCalculation) -> Option<u8> {
+        (0..MEANS as u8).find(|&place| {
+            self.window(place) != 0 && self.at(header::AT_MEANS, place) == calculation.0
+        })
+    }
+
+    /// Where the samples of a place start behind the records.
+    pub(crate) fn samples_place(&self, place: u8) -> usize {
+        let before: usize = (0..place).map(|p| 2 * usize::from(self.window(p))).sum();
+        self.place(File(header::FILES as u8)).0 + before
+    }
+
+    fn window(&self, place: u8) -> u16 {
+        word_at(
+            &self.chars,
+            inside(header::AT_WINDOWS) + 2 * usize::from(place),
+        )
     }
 
     /// The unit's address.
@@ -157,6 +201,15 @@ impl Config {
     /// Whether a file keeps the oldest, and refuses a record when it is full.
     pub fn keeps_oldest(&self, file: File) -> bool {
         u32::from(file.0) < header::FILES && self.at(header::AT_OLDEST, file.0) != 0
+    }
+
+    /// The analog of a calculation that is a mean, and over how many samples it is.
+    pub fn mean_of(&self, calculation: SpecialCalculation) -> Option<(Input, u16)> {
+        let place = self.mean_place(calculation)?;
+        Some((
+            Input(self.at(header::AT_SAMPLED, place)),
+            self.window(place),
+        ))
     }
 
     /// How long the parameter block is.

@@ -43,7 +43,7 @@ mod unit;
 pub use config::Config;
 pub use kept::{Clock, HistoryReply, Hold, Kept, Mark, Memory, Pending, Port, Select, View, Write};
 pub use numbers::{Contact, ControlOutput, File, Input, Master, Ordinal, SpecialCalculation};
-pub use outcome::{Action, Outcome, Stored, Turn};
+pub use outcome::{Action, Outcome, Sampled, Stored, Turn};
 pub use unit::Unit;
 
 /// The numbers of the C headers, taken over by the build.
@@ -63,6 +63,12 @@ pub const BLOCK: usize = header::BLOCK as usize;
 pub const ROOM: usize = header::ROOM as usize;
 /// The most characters of records that a valid configuration asks for.
 pub const RECORDS: usize = header::RECORDS as usize;
+/// The most characters of records and samples that it asks for.
+pub const LENT: usize = header::LENT as usize;
+/// The most calculations that are means.
+pub const MEANS: usize = header::MEANS as usize;
+/// The most samples that a mean is over.
+pub const SAMPLES: u16 = header::SAMPLES as u16;
 /// The longest lag, in milliseconds, with which a Set Time is taken.
 pub const LAG: u32 = header::LAG_MS;
 /// The most values in a record.

@@ -5,7 +5,7 @@ use crate::{header, BLOCK};
 pub(crate) const CONFIG: usize = header::CONFIG as usize;
 pub(crate) const UNIT: usize = header::UNIT as usize;
 
-/// What the library is lent: records as many as the configuration asks for, or as a saved unit came with.
+/// What the library is lent: records, and samples behind them, as many as the configuration asks for, or as a saved unit came with.
 #[derive(Clone, Debug, PartialEq, Eq)]
 pub(crate) struct Memory {
     pub unit: [u8; UNIT],
@@ -29,7 +29,7 @@ pub(crate) fn fitting(length: u16) -> u64 {
 }
 
 impl Memory {
-    /// With so many characters of records.
+    /// With so many characters of records and samples.
     pub fn empty(room: usize) -> Box<Memory> {
         Box::new(Memory {
             unit: [0; UNIT],
@@ -49,7 +49,7 @@ impl Memory {
         fitting(word_at(&self.unit, header::AT_LENGTH as usize))
     }
 
-    /// How much room there is for records.
+    /// How much room there is for records and samples.
     pub fn room(&self) -> u64 {
         self.records.len() as u64
     }
@@ -59,7 +59,7 @@ impl Memory {
         [&self.unit[..], &self.block, &self.records].concat()
     }
 
-    /// The same back: what is missing is 0, and all behind the block are records.
+    /// The same back: what is missing is 0, and all behind the block are records and samples.
     pub fn from_bytes(bytes: &[u8]) -> Box<Memory> {
         let records = bytes.get(UNIT + BLOCK..).unwrap_or(&[]);
         let mut made = Memory::empty(records.len());

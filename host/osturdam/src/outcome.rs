@@ -91,6 +91,24 @@ answers! {
     }
 }
 
+/// What the samples of a mean come to, once one more is in.
+#[derive(Clone, Copy, Debug, PartialEq)]
+pub enum Sampled {
+    /// The mean of the last ones, exact: its product with their number is their whole-number sum.
+    Ready(f32),
+    /// So many are still missing.
+    NotReady(u16),
+}
+
+impl Sampled {
+    pub(crate) fn told(missing: u16, bits: u32) -> Sampled {
+        match missing {
+            0 => Sampled::Ready(f32::from_bits(bits)),
+            _ => Sampled::NotReady(missing),
+        }
+    }
+}
+
 /// What the caller has a control output do now.
 #[derive(Clone, Copy, Debug, PartialEq, Eq, Hash)]
 pub enum Action {

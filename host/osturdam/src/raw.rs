@@ -49,6 +49,9 @@ extern "C" {
     fn osturdam_store_record(
         unit: *mut Chars, block: *const u8, length: u64, records: *mut u8, room: u64,
         file: u8, event: u8, values: *const u16, many: u64) -> u8;
+    fn osturdam_sample(
+        unit: *mut Chars, block: *const u8, length: u64, records: *mut u8, room: u64,
+        calculation: u8, sampled: *mut [u8; 6]) -> u8;
     fn osturdam_poll_begin(poll: *mut [u8; MEMORY], address: u16);
     fn osturdam_poll_ask(
         poll: *mut [u8; MEMORY], room: u64, all: u8, function: u8, command: u8, body: *const u8, count: u64,
@@ -146,6 +149,22 @@ pub(crate) fn store_record(m: &mut Memory, file: u8, event: u8, values: &[u16]) 
             &mut m.unit, m.block.as_ptr(), lent, m.records.as_mut_ptr(), room,
             file, event, values.as_ptr(), values.len() as u64)
     }
+}
+
+/// The outcome, how many samples are missing, and the bits of the mean.
+pub(crate) fn sample(m: &mut Memory, calculation: u8) -> (u8, u16, u32) {
+    let (lent, room, mut sampled) = (m.lent(), m.room(), [0; 6]);
+    // SAFETY: above; `lent` is at most the length of `block`, `room` that of `records`.
+    #[rustfmt::skip]
+    let outcome = unsafe {
+        osturdam_sample(&mut m.unit, m.block.as_ptr(), lent, m.records.as_mut_ptr(), room, calculation, &mut sampled)
+    };
+    let [low, high, mean @ ..] = sampled;
+    (
+        outcome,
+        u16::from_le_bytes([low, high]),
+        u32::from_le_bytes(mean),
+    )
 }
 
 pub(crate) fn poll_begin(poll: &mut [u8; MEMORY], address: u16) {

@@ -2,8 +2,8 @@
 
 use crate::memory::{word_at, Memory};
 use crate::{
-    header, raw, Action, Config, Contact, File, Input, Kept, Ordinal, Outcome, SpecialCalculation,
-    Stored, Turn, RECORDS,
+    header, raw, Action, Config, Contact, File, Input, Kept, Ordinal, Outcome, Sampled,
+    SpecialCalculation, Stored, Turn, LENT,
 };
 
 /// A remote unit: all its memory, in which its configuration lies too.
@@ -28,10 +28,10 @@ pub struct Unit {
 }
 
 impl Unit {
-    /// A fresh unit: clock on day 1, 00:00:00.000, all areas 0, no records, and room for as many as the configuration asks for.
+    /// A fresh unit: clock on day 1, 00:00:00.000, all areas 0, no records or samples, and room for as many as the configuration asks for.
     pub fn fresh(config: Config) -> Unit {
         // one that asks for more is not valid
-        let room = config.room().min(RECORDS as u64);
+        let room = config.room().min(LENT as u64);
         let mut memory = Memory::empty(room as usize);
         raw::fresh(&mut memory, &config);
         Unit { memory }
@@ -176,9 +176,44 @@ impl Unit {
         Outcome::told(raw::pulses(&mut self.memory, input.0, count))
     }
 
-    /// A calculation's value is now this pattern of 32 bits: `f32::to_bits` of a number, say.
+    /// A calculation's value is now this pattern of 32 bits: `f32::to_bits` of a number, say. That of a mean comes from its samples alone.
     pub fn set_value(&mut self, calculation: SpecialCalculation, value: u32) -> Outcome {
         Outcome::told(raw::set_value(&mut self.memory, calculation.0, value))
+    }
+
+    /// The analog of a mean is sampled: its word as it is now, signed, is in, and where there are more than the mean is over the oldest is
+    /// out. Once as many are in, each sample makes their mean the calculation's value; before that a master is told that the calculation
+    /// is not equipped. A calculation that is no mean is [`Outcome::NotValid`].
+    ///
+    /// ```
+    /// use osturdam::{Config, Input, Outcome, Sampled, SpecialCalculation, Unit};
+    ///
+    /// let (load, demand) = (Input(0x80), SpecialCalculation(7));
+    /// let config = Config::new(1).input(load).calculation(demand).mean(demand, load, 2);
+    /// let mut unit = Unit::fresh(config);
+    /// unit.set_word(load, 100);
+    /// assert_eq!(unit.sample(demand), Ok(Sampled::NotReady(1)));
+    /// unit.set_word(load, -3_i16 as u16);
+    /// assert_eq!(unit.sample(demand), Ok(Sampled::Ready(48.5)));
+    /// assert_eq!(unit.value(demand), Some(48.5_f32.to_bits()));
+    /// assert_eq!(unit.sample(SpecialCalculation(8)), Err(Outcome::NotValid));
+    /// ```
+    pub fn sample(&mut self, calculation: SpecialCalculation) -> Result<Sampled, Outcome> {
+        let (outcome, missing, bits) = raw::sample(&mut self.memory, calculation.0);
+        match Outcome::told(outcome) {
+            Outcome::Done => Ok(Sampled::told(missing, bits)),
+            refused => Err(refused),
+        }
+    }
+
+    /// The samples of a mean that are in, oldest first.
+    pub fn samples(&self, calculation: SpecialCalculation) -> Option<Vec<i16>> {
+        let config = self.config();
+        let place = config.mean_place(calculation)?;
+        let taken = header::AT_TAKEN as usize + 2 * usize::from(place);
+        let first = config.samples_place(place);
+        let sample = |n| word_at(&self.memory.records, first + 2 * usize::from(n)) as i16;
+        Some((0..word_at(&self.memory.unit, taken)).map(sample).collect())
     }
 
     /// A record of this event and these values is to be stored under the unit's clock.

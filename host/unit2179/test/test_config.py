@@ -7,6 +7,7 @@ from live import ROOT, SAMPLE, LiveTest
 
 SOURCES = [os.path.join(ROOT, 'host', 'unit2179', name) for name in ('config.c', 'text.c')]
 ALONE = os.path.join(ROOT, 'host', 'unit2179', 'test', 'config_alone.c')
+OLDEST = 836  # where a configuration says which files keep the oldest, with the means behind it
 PLAIN = {'memchr', 'memcpy', 'memset', 'strchr', 'strcmp', 'strlen', 'strcspn', 'strspn', 'vsnprintf', 'number_of', 'words_of'}
 
 
@@ -35,14 +36,36 @@ class Library(LiveTest):
             many, told, config = self.read(sample.read())
         self.assertEqual((many, told), (0, []))
         chars = bytes.fromhex(config)
-        self.assertEqual((len(chars), chars[:4]), (868, b'\xD2\4\x40\0'))
+        self.assertEqual((len(chars), chars[:4]), (932, b'\xD2\4\x40\0'))
         self.assertEqual([n for n in range(256) if chars[4 + n]], [0, 1, 0x30, 0x31, *range(0x40, 0x44), *range(0x80, 0x88)])
 
     def test_a_file_that_does_not_say_keeps_the_oldest_with_a_notice(self):
         many, told, config = self.read(b'unit 5\nfile 0 1\nfile 1 1 newest\nfile 2 1 oldest\nfile 3 1 # newest')
-        self.assertEqual((many, bytes.fromhex(config)[-32:]), (0, bytes([1, 0, 1, 1]) + bytes(28)))
+        self.assertEqual((many, bytes.fromhex(config)[OLDEST:OLDEST + 32]), (0, bytes([1, 0, 1, 1]) + bytes(28)))
         self.assertEqual([line.split()[:3] for line in told], [['2', 'file', '0'], ['5', 'file', '3']])
         self.assertIn('neither oldest nor newest', told[0])
+
+    def test_means_come_out_in_the_order_of_their_lines(self):
+        lines = b'unit 5\nmean 7 FFh 256\nmean 0 80h 1\ncalculations 0-7\ninputs 80h FFh\nmean 3 80h 16'
+        many, told, config = self.read(lines)
+        self.assertEqual((many, told), (0, []))
+        means = bytes.fromhex(config)[OLDEST + 32:]
+        self.assertEqual(means[:16], bytes([7, 0, 3]).ljust(16, b'\0'))
+        self.assertEqual(means[16:32], bytes([0xFF, 0x80, 0x80]).ljust(16, b'\0'))
+        self.assertEqual(means[32:], b'\0\1\1\0\x10\0'.ljust(32, b'\0'))
+
+    def test_every_fault_of_a_mean_is_named(self):
+        equipped = b'unit 5\ncalculations 0-20h\ninputs 30h 80h-8Fh\n'
+        for samples in (b'0', b'3', b'512', b'255', b'x', b''):
+            self.assertIn('over how many samples it is: 1, 2, 4', self.read(equipped + b'mean 0 80h ' + samples)[1][0])
+        for line, why in ((b'mean 21h 80h 1', 'the mean 21h is no equipped calculation'), (b'mean 0 30h 1', 'the mean 00h: 30h is no analog'),
+                          (b'mean 0 90h 1', 'the mean 00h: the analog 90h is not equipped'),
+                          (b'mean 0 80h 2\nmean 0 81h 4', 'the mean 00h is given a second time')):
+            many, told, config = self.read(equipped + line)
+            self.assertEqual((many, config, told[0].split(' ', 1)), (1, '', [str(4 + line.count(b'\n')), why]))
+        sixteen = b''.join(b'mean %d 80h 256\n' % n for n in range(16))
+        self.assertEqual(self.read(equipped + sixteen)[0], 0)
+        self.assertEqual(self.read(equipped + sixteen + b'mean 16 80h 1')[1], ['20 there are more than 16 means'])
 
     def test_or_its_faults_with_their_lines(self):
         many, told, config = self.read(b'unit 5\n\ninputs 20h\npoints\nfile 0 0\nblock 600\nunit 6\nunit x')
@@ -53,6 +76,7 @@ class Library(LiveTest):
 
     def test_any_text_is_taken(self):
         chance = random.Random(2179)
-        words = [b'unit', b'inputs', b'file', b'block', b'oldest', b'newest', b' ', b'\n', b'\0', b'#', b'-', b'FFh', b'9' * 40, b'\xFF', b'30h-40h']
+        words = [b'unit', b'inputs', b'file', b'block', b'mean', b'calculations', b'oldest', b'newest', b'256', b' ', b'\n', b'\0', b'#', b'-', b'FFh',
+                 b'9' * 40, b'\xFF', b'30h-40h']
         for _ in range(30):
             self.read(b''.join(chance.choice(words) for _ in range(400)))

@@ -1,5 +1,5 @@
-"""State files and journals of versions 2 to 5: of no contact it was known that it changed; before 5 no file was marked and none dropped a
-record, and before 4 each had 32 slots of 38 characters."""
+"""State files and journals of versions 2 to 6: there were no means; before 6 of no contact it was known that it changed; before 5 no file was
+marked and none dropped a record, and before 4 each had 32 slots of 38 characters."""
 import os
 import signal
 
@@ -11,7 +11,10 @@ FILES = {0: 16, 1: 1, 7: 3, 8: 1, 31: 2}  # a file's number, and how many values
 NEWEST = (0, 7)  # files that the configuration now lets keep the newest
 PACKED = sum(ROOM * (6 + 2 * values) for values in FILES.values())
 MANY = {0: 32, 1: 32, 7: 0, 8: 5, 31: 31}  # how many records each holds
-LAYOUTS = {3: (b'\1\0', RECORDS), 4: (b'\2\0', PACKED), 5: (b'\3\0', PACKED)}  # of a version, with how many characters of records it has
+# of a version, with how many characters of records it has
+LAYOUTS = {3: (b'\1\0', RECORDS), 4: (b'\2\0', PACKED), 5: (b'\3\0', PACKED), 6: (b'\4\0', PACKED)}
+# the parts that came with a version
+ADDED = {5: ('config.oldest', 'dropped'), 6: ('changed',), 7: ('config.means', 'config.sampled', 'config.windows', 'taken')}
 
 
 def size(file):
@@ -57,7 +60,7 @@ class Older(KeptTest):
                 at = place(self.version, file, i)
                 area[at:at + size(file)] = record(file, i)
         made = {**dict(parts_of(self.state())), 'layout': layout, 'records': bytes(area), 'counts': bytes(counts), **other}
-        unknown = ('changed',) if self.version == 5 else ('changed', 'config.oldest', 'dropped')
+        unknown = [name for version, names in ADDED.items() if version > self.version for name in names]
         return [(name, chars) for name, chars in made.items() if name not in unknown]
 
     def put_journals(self, chars):
@@ -85,8 +88,8 @@ class Older(KeptTest):
     def kept_as_now(self):
         parts = dict(parts_of(self.state()))
         self.assertTrue(image_of(parts.items()) == self.state())
-        self.assertEqual((parts['layout'], len(parts['records']), parts['dropped']), (b'\4\0', PACKED, bytes(64)))
-        self.assertEqual(parts['changed'], bytes(32))
+        self.assertEqual((parts['layout'], len(parts['records']), parts['dropped']), (b'\5\0', PACKED, bytes(64)))
+        self.assertEqual((parts['changed'], parts['config.windows'], parts['taken']), (bytes(32), bytes(32), bytes(32)))
         self.assertEqual([f for f in FILES if not parts['config.oldest'][f]], list(NEWEST))
 
 
@@ -165,6 +168,32 @@ class BroughtUntold(Brought):
         unit.end(signal.SIGKILL)
 
 
+class BroughtUnsampled(Brought):
+    version = 6
+
+    def test_what_files_keep_from_now_on_is_told(self):
+        self.put_state(image_of(self.older(), self.version))
+        self.assertNotIn('from now on', self.begin()[0].errors(), 'the file says it already')
+
+    def test_a_changed_contact_stays_one(self):
+        self.config = self.write('conf', f'unit {UNIT}\ninputs 02h\n' + ''.join(f'file {f} {values} oldest\n' for f, values in FILES.items()))
+        changed, words = bytearray(32), bytearray(512)
+        changed[2], words[4] = 1, 1
+        self.put_state(image_of(self.older(changed=bytes(changed), words=bytes(words)), self.version))
+        unit, wire = self.begin()
+        self.tell('events', 'contact 16 0')
+        until(lambda: unit.log('E'))
+        self.assertEqual(wire.ask(frame(A, UNIT, 0x00, 0x04)).data, b'\0\1')
+
+    def test_means_in_the_configuration_make_it_another(self):
+        with open(self.config, 'a') as config:
+            config.write('calculations 0\ninputs 80h\n')
+        parts = self.older()
+        with open(self.config, 'a') as config:
+            config.write('mean 0 80h 1\n')
+        self.refused_for(image_of(parts, self.version), 'another configuration')
+
+
 class Before(Older):
     def test_a_file_of_version_2_is_read(self):
         parts = [part for part in self.older() if not part[0].startswith('journal.')]
@@ -178,12 +207,12 @@ class Before(Older):
 class Refused(Older):
     def test_it_is_never_misread(self):
         good = self.older()
-        for version in (4, 5, 6):
+        for version in (4, 5, 6, 7):
             self.refused_for(image_of(good, version), 'the layout 1')
         self.refused_for(image_of(self.older(layout=b'\2\0'), 3), 'the layout 2')
         self.refused_for(image_of(self.older(records=bytes(PACKED)), 3), "'records' has not 38912 ")
         self.refused_for(image_of(self.older(layout=b'\2\0'), 4), f"'records' has not {PACKED} ")
-        for version, layout in ((6, 3), (5, 2), (5, 4), (4, 3), (3, 3)):
+        for version, layout in ((7, 4), (6, 3), (6, 5), (5, 2), (5, 4), (4, 3), (3, 3)):
             self.refused_for(image_of(self.older(layout=bytes([layout, 0])), version), f'the layout {layout}')
         self.config = SAMPLE
         self.refused_for(image_of(good, 3), 'another configuration')

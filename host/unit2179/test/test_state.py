@@ -32,7 +32,7 @@ def parts_of(image):
     return found
 
 
-def image_of(parts, version=6):
+def image_of(parts, version=7):
     """A state file of parts, with the length and the check that it should have."""
     body = b''.join(name.encode().ljust(NAME, b'\0') + len(chars).to_bytes(4, 'little') + chars for name, chars in parts)
     image = b'unit2179' + version.to_bytes(2, 'little') + (TITLE + len(body) + CHECK).to_bytes(4, 'little') + body
@@ -103,7 +103,7 @@ class Kept(KeptTest):
         self.begin()[0].end()
         good = self.state()
         for wrong, why in ((good[:-1], 'not whole'), (good + b'\0', 'not whole'), (b'', 'not whole'), (good[:500] + b'\1' + good[501:], 'damaged'),
-                           (b'U' + good[1:], 'no state file'), (image_of(parts_of(good), 7), 'version 7')):
+                           (b'U' + good[1:], 'no state file'), (image_of(parts_of(good), 9), 'version 9')):
             with self.subTest(why):
                 self.refused_for(wrong, why)
         unit, wire = self.begin('--fresh')
@@ -157,8 +157,9 @@ class Parts(KeptTest):
         parts = self.kept()
         self.assertTrue(image_of(parts) == self.state())
         self.assertEqual({name for name, _ in parts if name.startswith('config.')},
-                         {'config.' + name for name in ('number', 'length', 'inputs', 'outputs', 'calculations', 'files', 'values', 'oldest')})
-        regions = {'layout', 'numbers', 'words', 'results', 'fixed', 'counts', 'dropped', 'changed', 'block', 'records'}
+                         {'config.' + name for name in ('number', 'length', 'inputs', 'outputs', 'calculations', 'files', 'values', 'oldest',
+                                                        'means', 'sampled', 'windows')})
+        regions = {'layout', 'numbers', 'words', 'results', 'fixed', 'counts', 'dropped', 'changed', 'taken', 'plans', 'block', 'records'}
         self.assertEqual({name for name, _ in parts if '.' not in name}, regions)
         self.put_state(image_of(reversed(parts)))
         unit, wire = self.begin()
@@ -235,7 +236,7 @@ class First(KeptTest):
     def test_it_is_refused_where_it_cannot_be_true(self):
         self.refused_for(self.old[:700] + b'\1' + self.old[701:], 'damaged')
         self.refused_for(self.old[:-1], 'not whole')
-        for version in (0, 2, 3, 4, 5, 7):
+        for version in (0, 2, 3, 4, 5, 6, 8):
             other = self.old[:8] + bytes([version]) + self.old[9:-CHECK]
             self.refused_for(other + fnv(other), 'cannot be used')
         for many in (len(self.old) - 40, len(self.old) + 40):

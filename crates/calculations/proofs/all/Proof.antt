@@ -20,11 +20,11 @@ returns c =
 write-requires : tie.Need-write-requires
 write-requires c κs = search needs
 
-sub-t10 : tie.Need-sub-t10
-sub-t10 c = search needs
+sub-t11 : tie.Need-sub-t11
+sub-t11 c = search needs
 
-cast-t11 : tie.Need-cast-t11
-cast-t11 c = search needs
+cast-t12 : tie.Need-cast-t12
+cast-t12 c = search needs
 
 same-length : tie.Need-same-length
 same-length c = search needs
@@ -41,7 +41,7 @@ all-spec =
     refused-requires
     returns
     write-requires
-    sub-t10
-    cast-t11
+    sub-t11
+    cast-t12
     same-length
     returns-2)

@@ -7,24 +7,23 @@ use mathlib.Core.List.{List}
 use lib.ListN.{length}
 use Rattle.chars.specs.Gather.{gather, upFrom}
 use Rattle.model.specs.Calculations.{valueOf}
-use Rattle.layout.specs.Unit.{configIn}
 use Rattle.calculations.proofs.CalculationLaws.{count-none, count-taken, count-left}
 use borrow.Author.Needs.{needs}
 use Rattle.calculations.proofs.count.Statement.{statement}
 use Rattle.calculations.proofs.count.Tie as tie
 
 abbrev Inv-loop : tie.InvT-loop
-Inv-loop unit n₀ k₀ n k =
-    (k ≤ 128) × (n ≤ k) × ((values : List ℕ) → 4 * n ≡ length (gather (valueOf (configIn unit .calculations) values) (upFrom 0 k)))
+Inv-loop table n₀ k₀ n k =
+    (k ≤ 128) × (n ≤ k) × ((values : List ℕ) → 4 * n ≡ length (gather (valueOf table values) (upFrom 0 k)))
 
 abbrev μ-loop : tie.MeasureT-loop
-μ-loop unit n₀ k₀ n k = 128 - k
+μ-loop table n₀ k₀ n k = 128 - k
 
 loop-holds : tie.Need-loop-holds Inv-loop μ-loop
 loop-holds c = (omega arith, omega arith, λ vs. count-none _ vs)
 
-has-calculation-requires : tie.Need-has-calculation-requires Inv-loop μ-loop
-has-calculation-requires c κs = search needs
+has-requires : tie.Need-has-requires Inv-loop μ-loop
+has-requires c κs = search needs
 
 add-n : tie.Need-add-n Inv-loop μ-loop
 add-n c = search needs
@@ -38,7 +37,7 @@ loop-less c = search needs
 loop-again : tie.Need-loop-again Inv-loop μ-loop
 loop-again c =
     let g = c .before .before .before .loop .inv in
-    let h = sym (c .before .has-calculation .ensures) in
+    let h = sym (c .before .has .ensures) in
     ⊎-elim
     (λ w. (omega arith, omega (arith, w .1), λ vs. ap (λ (m : ℕ). 4 * m) (w .1) ∙ count-taken _ vs _ _ (g .2 vs) (h ∙ w .0 .taken)))
     (λ w. (omega arith, omega (arith, w .1), λ vs. ap (λ (m : ℕ). 4 * m) (w .1) ∙ count-left _ vs _ _ (g .2 vs) (h ∙ w .0 .left)))
@@ -56,7 +55,7 @@ count-spec =
     Inv-loop
     μ-loop
     loop-holds
-    has-calculation-requires
+    has-requires
     add-n
     add-k
     loop-less

@@ -10,19 +10,18 @@ use Rattle.chars.proofs.PutLaws.{part-none, part-whole, front-more, put-one}
 use Rattle.chars.proofs.GatherLaws.{gathered-none, gathered-more, gathered-same}
 use Rattle.model.specs.Limits.{replyHead}
 use Rattle.model.specs.Calculations.{missingOf}
-use Rattle.layout.specs.Unit.{configIn}
 use Rattle.calculations.proofs.CalculationLaws.{missing-taken, missing-left}
 use borrow.Author.Needs.{needs}
 use Rattle.calculations.proofs.missing.Statement.{statement}
 use Rattle.calculations.proofs.missing.Tie as tie
 
 abbrev Inv-loop : tie.InvT-loop
-Inv-loop unit ns reply₀ to₀ n i₀ reply to i =
+Inv-loop table ns reply₀ to₀ n i₀ reply to i =
     (i ≤ n) × (to ≤ replyHead + i) × (length reply ≡ length reply₀)
-    × Gathered (missingOf (configIn unit .calculations)) (part ns 0 i) reply₀ replyHead reply to
+    × Gathered (missingOf table) (part ns 0 i) reply₀ replyHead reply to
 
 abbrev μ-loop : tie.MeasureT-loop
-μ-loop unit ns reply₀ to₀ n i₀ reply to i = n - i
+μ-loop table ns reply₀ to₀ n i₀ reply to i = n - i
 
 loop-holds : tie.Need-loop-holds Inv-loop μ-loop
 loop-holds c = (omega arith, omega arith, refl, rw part-none (gathered-none _ _ _))
@@ -30,8 +29,8 @@ loop-holds c = (omega arith, omega arith, refl, rw part-none (gathered-none _ _ 
 shared-slice-read-x : tie.Need-shared-slice-read-x Inv-loop μ-loop
 shared-slice-read-x c = search needs
 
-has-calculation-requires : tie.Need-has-calculation-requires Inv-loop μ-loop
-has-calculation-requires c κs = search needs
+has-requires : tie.Need-has-requires Inv-loop μ-loop
+has-requires c κs = search needs
 
 slice-write-reply : tie.Need-slice-write-reply Inv-loop μ-loop
 slice-write-reply c = search needs
@@ -48,7 +47,7 @@ loop-less c = search needs
 loop-again : tie.Need-loop-again Inv-loop μ-loop
 loop-again c =
     let g = c .before .before .before .before .loop .inv in
-    let h = sym (c .before .has-calculation .ensures) in
+    let h = sym (c .before .has .ensures) in
     let k : c .before .before .before .before .loop .i < length (c .before .before .before .before .before .before .before .args .ns .now) = omega arith in
     ⊎-elim
     (λ w. (
@@ -81,7 +80,7 @@ missing-spec =
     μ-loop
     loop-holds
     shared-slice-read-x
-    has-calculation-requires
+    has-requires
     slice-write-reply
     add-to
     add-i

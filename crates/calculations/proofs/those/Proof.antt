@@ -11,11 +11,11 @@ use Rattle.calculations.proofs.those.Tie as tie
 missing-requires : tie.Need-missing-requires
 missing-requires c κs = search needs
 
-sub-t10 : tie.Need-sub-t10
-sub-t10 c = search needs
+sub-t11 : tie.Need-sub-t11
+sub-t11 c = search needs
 
-cast-t11 : tie.Need-cast-t11
-cast-t11 c = search needs
+cast-t12 : tie.Need-cast-t12
+cast-t12 c = search needs
 
 same-length : tie.Need-same-length
 same-length c = search needs
@@ -39,11 +39,11 @@ returns-2 c =
 pairs-requires : tie.Need-pairs-requires
 pairs-requires c κs = search needs
 
-sub-t12 : tie.Need-sub-t12
-sub-t12 c = search needs
+sub-t13 : tie.Need-sub-t13
+sub-t13 c = search needs
 
-cast-t17 : tie.Need-cast-t17
-cast-t17 c = search needs
+cast-t18 : tie.Need-cast-t18
+cast-t18 c = search needs
 
 same-length-3 : tie.Need-same-length-3
 same-length-3 c = search needs
@@ -59,15 +59,15 @@ those-spec =
     tie.close
     (tie.spec
     missing-requires
-    sub-t10
-    cast-t11
+    sub-t11
+    cast-t12
     same-length
     returns
     refused-requires
     same-length-2
     returns-2
     pairs-requires
-    sub-t12
-    cast-t17
+    sub-t13
+    cast-t18
     same-length-3
     returns-3)

@@ -10,25 +10,25 @@ use Rattle.chars.proofs.WordLaws.{length-value}
 use Rattle.chars.proofs.GatherLaws.{up-none, up-next, gathered-none, gathered-more, gathered-same}
 use Rattle.model.specs.Limits.{replyHead}
 use Rattle.model.specs.Calculations.{valueOf}
-use Rattle.layout.specs.Unit.{unitIn, configIn}
+use Rattle.layout.specs.Unit.{unitIn}
 use Rattle.calculations.proofs.CalculationLaws.{value-taken, value-left}
 use borrow.Author.Needs.{needs}
 use Rattle.calculations.proofs.write.Statement.{statement}
 use Rattle.calculations.proofs.write.Tie as tie
 
 abbrev Inv-loop : tie.InvT-loop
-Inv-loop unit reply₀ to₀ k₀ reply to k =
+Inv-loop unit table reply₀ to₀ k₀ reply to k =
     (k ≤ 128) × (to ≤ replyHead + 4 * k) × (length reply ≡ length reply₀)
-    × Gathered (valueOf (configIn unit .calculations) (unitIn unit .values)) (upFrom 0 k) reply₀ replyHead reply to
+    × Gathered (valueOf table (unitIn unit .values)) (upFrom 0 k) reply₀ replyHead reply to
 
 abbrev μ-loop : tie.MeasureT-loop
-μ-loop unit reply₀ to₀ k₀ reply to k = 128 - k
+μ-loop unit table reply₀ to₀ k₀ reply to k = 128 - k
 
 loop-holds : tie.Need-loop-holds Inv-loop μ-loop
 loop-holds c = (omega arith, omega arith, refl, rw up-none (gathered-none _ _ _))
 
-has-calculation-requires : tie.Need-has-calculation-requires Inv-loop μ-loop
-has-calculation-requires c κs = search needs
+has-requires : tie.Need-has-requires Inv-loop μ-loop
+has-requires c κs = search needs
 
 value-of-requires : tie.Need-value-of-requires Inv-loop μ-loop
 value-of-requires c κs = search needs
@@ -48,7 +48,7 @@ loop-less c = search needs
 loop-again : tie.Need-loop-again Inv-loop μ-loop
 loop-again c =
     let g = c .before .before .before .loop .inv in
-    let h = sym (c .before .has-calculation .ensures) in
+    let h = sym (c .before .has .ensures) in
     ⊎-elim
     (λ w. (
       omega arith,
@@ -79,7 +79,7 @@ write-spec =
     Inv-loop
     μ-loop
     loop-holds
-    has-calculation-requires
+    has-requires
     value-of-requires
     put-value-requires
     add-to

@@ -23,7 +23,7 @@ impl Chance {
     }
 }
 
-fn events(unit: &mut Unit, chance: &mut Chance) -> [Outcome; 5] {
+fn events(unit: &mut Unit, chance: &mut Chance) -> [Outcome; 6] {
     let mut buffer = vec![0; (chance.next() % 1100) as usize];
     let turn = unit.stretch(&chance.chars(300), chance.next() as u32, &mut buffer);
     assert!(turn.reply.len() <= REPLY);
@@ -41,6 +41,8 @@ fn events(unit: &mut Unit, chance: &mut Chance) -> [Outcome; 5] {
             SpecialCalculation(chance.next() as u8),
             chance.next() as u32,
         ),
+        unit.sample(SpecialCalculation(chance.next() as u8))
+            .map_or_else(|refused| refused, |_| Outcome::Done),
     ]
 }
 
@@ -52,7 +54,7 @@ fn any_kept_bytes_are_judged_and_left() {
         let own = [0, Config::BYTES][round % 2];
         bytes[own..].fill_with(|| chance.next() as u8);
         let mut unit = Unit::from_bytes(&bytes);
-        assert_eq!(events(&mut unit, &mut chance), [Outcome::NotConfigured; 5]);
+        assert_eq!(events(&mut unit, &mut chance), [Outcome::NotConfigured; 6]);
         let values: Vec<u16> = (0..chance.next() % 40).map(|n| n as u16).collect();
         assert_eq!(
             unit.store_record(File(chance.next() as u8), 0, &values),
@@ -76,12 +78,17 @@ fn any_configuration_is_judged() {
         Config::new(1).file(File(255), 255),
         Config::new(1).block(BLOCK + 1),
         Config::new(1).block(usize::MAX),
+        Config::new(1).mean(SpecialCalculation(0), Input(0x80), 1),
+        Config::new(1)
+            .input(Input(0x80))
+            .calculation(SpecialCalculation(0))
+            .mean(SpecialCalculation(0), Input(0x80), u16::MAX),
     ];
     for config in invalid {
         assert!(!config.valid());
         assert_eq!(
             events(&mut Unit::fresh(config), &mut Chance(7)),
-            [Outcome::NotConfigured; 5]
+            [Outcome::NotConfigured; 6]
         );
     }
     let widest = (0..=255).fold(Config::new(0x7FE).block(BLOCK), |config, n| {

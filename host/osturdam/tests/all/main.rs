@@ -7,5 +7,6 @@ mod lag;
 mod letter;
 mod line;
 mod masters;
+mod means;
 mod pairs;
 mod saved;

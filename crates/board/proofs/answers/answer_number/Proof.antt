@@ -15,11 +15,17 @@ enum-known-answer-2 c = search needs
 stored-number-requires : tie.Need-stored-number-requires
 stored-number-requires c κs = search needs
 
+enum-told : tie.Need-enum-told
+enum-told c = search needs
+
 returns : tie.Need-returns
 returns c = rw (c .before .before .answer .given .1) (c .number .ensures)
 
 returns-2 : tie.Need-returns-2
 returns-2 c = search needs
+
+returns-3 : tie.Need-returns-3
+returns-3 c = search needs
 
 pub answer-number-spec : {M : Type 1} → statement M
 answer-number-spec =
@@ -29,5 +35,7 @@ answer-number-spec =
     number-requires
     enum-known-answer-2
     stored-number-requires
+    enum-told
     returns
-    returns-2)
+    returns-2
+    returns-3)

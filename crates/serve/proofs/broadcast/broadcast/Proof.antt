@@ -30,10 +30,10 @@ returns c =
     let ks = numbersIn (s .args .unit .now) in
     let step = c .before .before .before .before .before .broadcast-step .ensures in
     let bit = c .before .before .before .keep-broadcast .ensures in (
-      λ block fs mark entry stands.
-          let a = areasIn (s .args .unit .now) block in
-          let stirred = step .0 block stands in
-          makes-broadcast (coreIn ks) a (memoryIn ks) (portIn ks) fs _ mark entry BroadcastDone stirred (numbers-kept _ block _ (numbers-only _ _ bit)) (rw (← (c .before .before .number .ensures), eq-eqb _ _ (c .before .if1 .taken))) (c .quiet .ensures) (broadcast-written (stirred .kept) (numbers-left _ _ bit)),
+      λ block ss fs mark entry stands.
+          let a = areasIn (s .args .unit .now) block ss in
+          let stirred = step .0 block ss stands in
+          makes-broadcast (coreIn ks) a (memoryIn ks) (portIn ks) fs _ mark entry BroadcastDone stirred (numbers-kept _ block _ _ (numbers-only _ _ bit)) (rw (← (c .before .before .number .ensures), eq-eqb _ _ (c .before .if1 .taken))) (c .quiet .ensures) (broadcast-written (stirred .kept) (numbers-left _ _ bit)),
       unshifted-then _ _ _ (step .1) (unshifted-numbers _ _ (numbers-only _ _ bit)),
     )
 
@@ -46,10 +46,10 @@ returns-2 c =
     let ks = numbersIn (s .args .unit .now) in
     let step = c .before .before .before .before .before .broadcast-step .ensures in
     let bit = c .before .before .before .keep-broadcast .ensures in (
-      λ block fs mark entry stands.
-          let a = areasIn (s .args .unit .now) block in
-          let stirred = step .0 block stands in
-          makes-broadcast (coreIn ks) a (memoryIn ks) (portIn ks) fs _ mark entry BroadcastRefused stirred (numbers-kept _ block _ (numbers-only _ _ bit)) (rw (← (c .before .before .number .ensures), ne-eqb _ _ (c .before .if1 .left))) (c .quiet2 .ensures) (broadcast-written (stirred .kept) (numbers-left _ _ bit)),
+      λ block ss fs mark entry stands.
+          let a = areasIn (s .args .unit .now) block ss in
+          let stirred = step .0 block ss stands in
+          makes-broadcast (coreIn ks) a (memoryIn ks) (portIn ks) fs _ mark entry BroadcastRefused stirred (numbers-kept _ block _ _ (numbers-only _ _ bit)) (rw (← (c .before .before .number .ensures), ne-eqb _ _ (c .before .if1 .left))) (c .quiet2 .ensures) (broadcast-written (stirred .kept) (numbers-left _ _ bit)),
       unshifted-then _ _ _ (step .1) (unshifted-numbers _ _ (numbers-only _ _ bit)),
     )
 

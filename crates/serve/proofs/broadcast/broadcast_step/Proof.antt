@@ -47,9 +47,9 @@ returns c =
     let q = asked (s .args .frame) (s .args .body .now) in
     let k = coreIn (numbersIn (s .args .unit .now)) in
     let w = reset-left u q _ (unit-long u (c .before .before .before .before .before .before .before .before .before .told-long-arg2 .given .0)) (c .before .before .reset-count .ensures) in (
-      λ block stands.
-          let a = areasIn u block in
-          stirs-reset k a _ (broadcast-reset (configIn u) k a (s .args .lag) q (c .before .before .before .before .before .before .if1 .taken) (c .before .before .before .before .before .match .keys1)) (c .before .before .reset-count .ensures .0) (c .scanned .ensures) (rw (numbers-by-words u _ (w .0)) (readable-written _ stands)) (words-left u block _ (w .0)),
+      λ block ss stands.
+          let a = areasIn u block ss in
+          stirs-reset k a _ (broadcast-reset (configIn u) k a (s .args .lag) q (c .before .before .before .before .before .before .if1 .taken) (c .before .before .before .before .before .match .keys1)) (c .before .before .reset-count .ensures .0) (c .scanned .ensures) (rw (numbers-by-words u _ (w .0)) (readable-written _ stands)) (words-left u block _ _ (w .0)),
       unshifted-words u _ (w .0) (w .1),
     )
 
@@ -61,9 +61,9 @@ returns-2 c =
     let q = asked (s .args .frame) (s .args .body .now) in
     let k = coreIn (numbersIn (s .args .unit .now)) in
     let done = c .before .set-time .ensures ∙ ap (λ (t : Clock). setOf (setTimeOf (s .args .lag) t q)) (c .before .before .before .clock-in .ensures) in (
-      λ block stands.
-          let a = areasIn u block in
-          stirs-time k a _ _ (broadcast-time (configIn u) k a (s .args .lag) q (c .before .before .before .before .before .before .if1 .taken) (c .before .before .before .before .before .match .keys2)) (ap (λ (x : Set). x .outcome) done) (c .timed .ensures .0) (rw done at (c .timed .ensures .1 .0 stands)) (numbers-kept u block _ (c .timed .ensures .1 .1)),
+      λ block ss stands.
+          let a = areasIn u block ss in
+          stirs-time k a _ _ (broadcast-time (configIn u) k a (s .args .lag) q (c .before .before .before .before .before .before .if1 .taken) (c .before .before .before .before .before .match .keys2)) (ap (λ (x : Set). x .outcome) done) (c .timed .ensures .0) (rw done at (c .timed .ensures .1 .0 stands)) (numbers-kept u block _ _ (c .timed .ensures .1 .1)),
       unshifted-numbers u _ (c .timed .ensures .1 .1),
     )
 
@@ -73,8 +73,8 @@ returns-3 c =
     let u = s .args .unit .now in
     let q = asked (s .args .frame) (s .args .body .now) in
     let k = coreIn (numbersIn (s .args .unit .now)) in (
-      λ block stands.
-          let a = areasIn u block in
+      λ block ss stands.
+          let a = areasIn u block ss in
           stirs-refused k a (broadcast-other (configIn u) k a (s .args .lag) q (c .before .before .if1 .taken) (c .before .match .rest .0 .1) (c .before .match .rest .1)) (c .plain-step .ensures) (readable-written _ stands) refl,
       unshifted u,
     )
@@ -88,8 +88,8 @@ returns-4 c =
     let u = s .args .unit .now in
     let q = asked (s .args .frame) (s .args .body .now) in
     let k = coreIn (numbersIn (s .args .unit .now)) in (
-      λ block stands.
-          let a = areasIn u block in
+      λ block ss stands.
+          let a = areasIn u block ss in
           stirs-refused k a (broadcast-not (configIn u) k a (s .args .lag) q (c .before .if1 .left)) (c .plain-step2 .ensures) (readable-written _ stands) refl,
       unshifted u,
     )

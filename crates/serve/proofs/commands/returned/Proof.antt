@@ -36,9 +36,9 @@ same-length c = search needs
 returns : tie.Need-returns
 returns c =
     let s = c .before .before .before .before .before .before .before .before .before in
-    λ fs stands.
+    λ ss fs stands.
     let q = asked (s .args .frame) (s .args .body .now) in
-    let i = innerBy (s .args .unit .now) (s .args .block .now) fs in
+    let i = innerBy (s .args .unit .now) (s .args .block .now) ss fs in
     acts-scan i _ (read-tame _ _ q (omega (arith, c .before .before .before .before .before .before .shared-slice-known2 .given 3))) (return-read i q (c .before .before .before .before .before .match .keys1)) (c .before .before .before .read .ensures) (c .scanned .ensures) (readable-written _ stands) refl
 
 same-length-2 : tie.Need-same-length-2
@@ -48,17 +48,17 @@ returns-2 : tie.Need-returns-2
 unfolding timeReadOf coreIn
 returns-2 c =
     let s = c .before .before .before .before .before .before .before .before .before .before in
-    λ fs stands.
+    λ ss fs stands.
     let q = asked (s .args .frame) (s .args .body .now) in
-    let i = innerBy (s .args .unit .now) (s .args .block .now) fs in
+    let i = innerBy (s .args .unit .now) (s .args .block .now) ss fs in
     acts-scan i _ (time-tame _ q) (return-time i q (c .before .before .before .before .before .before .match .keys2)) (rw (s .pre) at (rw (c .before .before .before .before .before .clock-in .ensures) at (c .before .before .before .read-time .ensures))) (c .scanned2 .ensures) (readable-written _ stands) refl
 
 returns-3 : tie.Need-returns-3
 returns-3 c =
     let s = c .before .before .before .before .before in
-    λ fs stands.
+    λ ss fs stands.
     let q = asked (s .args .frame) (s .args .body .now) in
-    let i = innerBy (s .args .unit .now) (s .args .block .now) fs in
+    let i = innerBy (s .args .unit .now) (s .args .block .now) ss fs in
     acts-refused i (return-unknown i q (c .before .match .rest .0 .1) (c .before .match .rest .1)) refl (c .plain-step .ensures) (readable-written _ stands) refl
 
 pub returned-spec : {M : Type 1} → statement M

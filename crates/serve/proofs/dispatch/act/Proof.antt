@@ -14,6 +14,7 @@ use Rattle.layout.specs.Kept.{innerIn}
 use Rattle.serve.proofs.CommandLaws.{internal-stays, return-stays, acts-scan, acts-refused, unshifted-numbers, numbers-kept}
 use Rattle.serve.proofs.StepLaws.{step-broken, step-told, step-inputs, step-calculations, step-tables, step-control, step-internal, step-return, step-unknown, acts-control, run-held, acted-still, alone-stays}
 use Rattle.serve.proofs.KeptLaws.{steady-same}
+use Rattle.serve.proofs.FitLaws.{now-equipped}
 use Rattle.serve.proofs.TameLaws.{inputs-tame, calculations-tame, tables-tame, control-tame}
 use Rattle.serve.proofs.TellingLaws.{acted-told, told-steady}
 use borrow.Author.Needs.{needs}
@@ -49,7 +50,7 @@ returns c =
     let only = numbers-only _ _ (held .0) in (
       λ y stands.
           rw (unshifted-numbers u _ only .counts)
-          (acted-still (alone-stays i _ z) (acts-refused i z refl (c .plain-step .ensures) (hold-written (readable-written ks stands) (numbers-left _ _ (held .0), held .1)) (numbers-kept u _ _ only))),
+          (acted-still (alone-stays i _ z) (acts-refused i z refl (c .plain-step .ensures) (hold-written (readable-written ks stands) (numbers-left _ _ (held .0), held .1)) (numbers-kept u _ _ _ only))),
       unshifted-numbers u _ only .steady,
     )
 
@@ -127,7 +128,7 @@ returns-3 c =
     let b = sym (c .before .before .before .before .before .before .before .before .breaks-off .ensures ∙ ap (λ (h : Hold). breaks h q) (c .before .before .before .before .before .before .before .before .before .hold-kept .ensures)) ∙ c .before .before .before .before .before .before .before .if1 .left in
     let z = step-calculations (configIn u) i (s .args .lag) q b (c .before .before .before .before .before .before .match .keys2) in (
       λ y stands.
-          acted-still (alone-stays i _ z) (acts-scan i _ (calculations-tame _ _ q) z (fills-as (sym (in-room _ _ (s .pre .0))) (c .before .before .before .scan2 .ensures)) (c .scanned2 .ensures) (readable-written ks stands) refl),
+          acted-still (alone-stays i _ z) (acts-scan i _ (calculations-tame _ _ q) z (fills-as (sym (in-room _ _ (s .pre .0) ∙ now-equipped u (s .args .records .now) q)) (c .before .before .before .scan2 .ensures)) (c .scanned2 .ensures) (readable-written ks stands) refl),
       steady-same u,
     )
 
@@ -187,7 +188,7 @@ returns-6 c =
     let held = c .controlled .ensures in (
       λ y stands.
           rw (unshifted-numbers u _ (held .1 .1) .counts)
-          (acted-still (alone-stays i _ z) (acts-control i _ (control-tame _ _ q) z ran (held .0) (rw (run-held (i .core) (i .areas) _ _ q ran) at (held .1 .0 stands)) (numbers-kept u _ _ (held .1 .1)))),
+          (acted-still (alone-stays i _ z) (acts-control i _ (control-tame _ _ q) z ran (held .0) (rw (run-held (i .core) (i .areas) _ _ q ran) at (held .1 .0 stands)) (numbers-kept u _ _ _ (held .1 .1)))),
       unshifted-numbers u _ (held .1 .1) .steady,
     )
 
@@ -208,7 +209,7 @@ returns-7 c =
     let b = sym (c .before .before .before .before .before .before .before .before .before .before .breaks-off .ensures ∙ ap (λ (h : Hold). breaks h q) (c .before .before .before .before .before .before .before .before .before .before .before .hold-kept .ensures)) ∙ c .before .before .before .before .before .before .before .before .before .if1 .left in
     let done = c .before .before .before .before .internal .ensures in (
       λ y stands.
-          rw (step-internal (configIn u) i (s .args .lag) q b (c .before .before .before .before .before .before .before .before .match .keys6), done .1 .counts) (acted-still (internal-stays (configIn u) i (s .args .lag) q) (done .0 (i .history .files) stands)),
+          rw (step-internal (configIn u) i (s .args .lag) q b (c .before .before .before .before .before .before .before .before .match .keys6), done .1 .counts) (acted-still (internal-stays (configIn u) i (s .args .lag) q) (done .0 (i .areas .samples) (i .history .files) stands)),
       done .1 .steady,
     )
 
@@ -228,7 +229,7 @@ returns-8 c =
     let q = asked (s .args .frame) (s .args .body .now) in
     let b = sym (c .before .before .before .before .before .before .before .before .breaks-off .ensures ∙ ap (λ (h : Hold). breaks h q) (c .before .before .before .before .before .before .before .before .before .hold-kept .ensures)) ∙ c .before .before .before .before .before .before .before .if1 .left in (
       λ y stands.
-          rw (step-return (configIn u) i (s .args .lag) q b (c .before .before .before .before .before .before .match .keys7)) (acted-still (return-stays i q) (c .before .before .returned .ensures (i .history .files) stands)),
+          rw (step-return (configIn u) i (s .args .lag) q b (c .before .before .before .before .before .before .match .keys7)) (acted-still (return-stays i q) (c .before .before .returned .ensures (i .areas .samples) (i .history .files) stands)),
       steady-same u,
     )
 

@@ -71,14 +71,14 @@ returns c =
           let a = done .0 y stands in
           let h = step-heard _ (a .acts) (numbers-left _ _ heard) in
           let f = rw (c .before .before .before .before .before .before .before .before .before .before .before .before .before .before .before .before .before .before .before .before .before .before .before .before .status-in .ensures, c .before .before .before .before .before .before .before .before .before .before .before .before .before .before .before .before .before .before .before .before .before .before .port-status-in .ensures ∙ status-numbered ks stands) at (c .before .before .before .before .before .before .finish .ensures) in
-          makes-told (configIn u) _ _ _ [] (s .args .frame) (s .args .body .now) o only same told
+          makes-told (configIn u) _ _ _ [] [] (s .args .frame) (s .args .body .now) o only same told
           (record {
             makes = makes-served (configIn u) i (s .args .lag) q _ (s .pre .0) h (a .files) f (ends .0 (written-readable (h .kept))) refl
-                (areas-left (configIn u) _ _ _ _ (s .args .frame) (s .args .body .now) o only same told);
+                (areas-left (configIn u) _ _ _ _ _ (s .args .frame) (s .args .body .now) o only same told);
             changed = a .changed;
           }),
       steady-then _ _ _ (steady-then _ _ _ (done .1) (unshifted-numbers _ _ only .steady))
-          (told-steady (configIn u) _ _ _ [] (s .args .frame) (s .args .body .now) o only same told),
+          (told-steady (configIn u) _ _ _ [] [] (s .args .frame) (s .args .body .now) o only same told),
     )
 
 pub served-spec : {M : Type 1} → statement M

@@ -80,7 +80,7 @@ returns c =
     let ks = numbersIn u in
     let i = innerIn u (s .args .block .now) (s .args .records .now) in (
       λ y stands.
-          unit-marked (s .args .s .now) _ u _ _
+          unit-marked (s .args .s .now) _ u _ _ _
           (judged-broken (configIn u) i (s .args .lag) (s .args .s .now) (portIn ks .mark) (portIn ks) (readable-written ks stands) (sym (c .before .before .before .before .before .hear .ensures) ∙ c .before .before .before .enum-told .given .1) (c .before .quiet .ensures))
           (c .marked .ensures),
       unshifted-numbers u _ (numbers-only _ _ (c .marked .ensures .1)) .steady,
@@ -93,7 +93,7 @@ returns-2 c =
     let ks = numbersIn u in
     let i = innerIn u (s .args .block .now) (s .args .records .now) in (
       λ y stands.
-          unit-marked (s .args .s .now) _ u _ _
+          unit-marked (s .args .s .now) _ u _ _ _
           (judged-wrong (configIn u) i (s .args .lag) (s .args .s .now) (portIn ks .mark) (portIn ks) (readable-written ks stands) (sym (c .before .before .before .before .before .hear .ensures) ∙ c .before .before .before .enum-told2 .given .1) (c .before .quiet2 .ensures))
           (c .marked2 .ensures),
       unshifted-numbers u _ (numbers-only _ _ (c .marked2 .ensures .1)) .steady,
