@@ -7,35 +7,52 @@ use mathlib.Core.Bool.{Bool, true, cond, _&&_}
 use lib.ListN.{length, getD, set}
 use lib.Seq.{set-getD}
 use lib.Dec.{eqb, ltb}
-use lib.Bits.{bitOr}
-use borrow.Author.Tests.{eqb-true, ltb-true}
+use lib.Bits.{bitOr, or-shr}
+use borrow.Author.Tests.{eqb-true, eq-eqb, ltb-true, lt-ltb}
 use Rattle.chars.specs.Word.{Characters, word, wordAt}
 use Rattle.chars.specs.Gather.{gather, upFrom, every}
 use Rattle.model.specs.Config.{has, twoBit}
 use Rattle.model.specs.Contacts.{groupIn, anew, unmarked, untallied}
 use Rattle.model.proofs.Conditions.{by-cond, and-left, and-right, every-upFrom}
 use Rattle.layout.specs.Unit.{Unit, unitLong, regionStart, wordsRegion, changedRegion, unitIn, setWords, setChanged, setContacts, putWord, putChanged}
-use Rattle.layout.specs.Contacts.{told, allTold, Anew}
+use Rattle.layout.specs.Contacts.{markless, changeless, told, allTold, Anew}
 use Rattle.layout.proofs.UnitLaws.{length-put-in, word-at, changed-at, word-written, changed-written}
 use Rattle.layout.proofs.UnitOne.{unit-one}
-use Rattle.layout.proofs.JudgedLaws.{every-start, every-next, or-none}
+use Rattle.layout.proofs.RangeLaws.{same-bool}
+use Rattle.layout.proofs.JudgedLaws.{every-start, every-next, every-both, or-none}
 
 -- ---- whether any waits
 
-pub waits-told : (u : List ℕ) (g : ℕ) {m b : ℕ} → g < 32 → m ≡ wordAt u (regionStart wordsRegion + 2 * g) / 256 → b ≡ getD u (regionStart changedRegion + g) 0
-    → eqb (bitOr m b) 0 ≡ told (unitIn u .words) (unitIn u .changed) g
-unfolding told
-waits-told u g h e f = rw (or-none, e, f, word-at u g (omega arith), changed-at u g h)
+-- a word below 256 has no mark
+unmarked-low : (w : ℕ) → ltb w 256 ≡ eqb (w / 256) 0
+unmarked-low w =
+    same-bool (ltb w 256) (eqb (w / 256) 0)
+    (λ e. let l : w < 256 = ltb-true w 256 e in eq-eqb (w / 256) 0 (omega arith))
+    (λ e. let z : w / 256 ≡ 0 = eqb-true (w / 256) 0 e in lt-ltb w 256 (omega arith))
 
-pub told-start : (f : ℕ → Bool) → eqb 0 0 ≡ every f (upFrom 0 0)
-told-start f = every-start f
+-- and so has what two words have joined where neither has
+or-low : (x y : ℕ) → ltb (bitOr x y) 256 ≡ (ltb x 256 && ltb y 256)
+or-low x y = rw (unmarked-low, unmarked-low x, unmarked-low y, or-shr x y 8, or-none)
 
-pub told-next : (f : ℕ → Bool) (i x y : ℕ) → eqb x 0 ≡ every f (upFrom 0 i) → eqb y 0 ≡ f i → eqb (bitOr x y) 0 ≡ every f (upFrom 0 (i + 1))
-told-next f i x y p q = rw (or-none x y, p, q, every-next f i)
+pub markless-next : (u : List ℕ) (i x y : ℕ) → i < 32 → ltb x 256 ≡ every (markless (unitIn u .words)) (upFrom 0 i) → y ≡ wordAt u (regionStart wordsRegion + 2 * i)
+    → ltb (bitOr x y) 256 ≡ every (markless (unitIn u .words)) (upFrom 0 (i + 1))
+unfolding markless
+markless-next u i x y h p e = rw (or-low x y, p, unmarked-low y, e, every-next, word-at u i (omega arith))
 
-pub told-done : (ws bs : List ℕ) {b : Bool} {i : ℕ} → b ≡ every (told ws bs) (upFrom 0 i) → i ≡ 32 → b ≡ allTold ws bs
-unfolding allTold
-told-done ws bs e q = rw q at e
+pub changeless-next : (u : List ℕ) (i x y : ℕ) → i < 32 → eqb x 0 ≡ every (changeless (unitIn u .changed)) (upFrom 0 i) → y ≡ getD u (regionStart changedRegion + i) 0
+    → eqb (bitOr x y) 0 ≡ every (changeless (unitIn u .changed)) (upFrom 0 (i + 1))
+unfolding changeless
+changeless-next u i x y h p e = rw (or-none x y, p, e, every-next, changed-at u i h)
+
+pub each-start : (f : ℕ → Bool) → true ≡ every f (upFrom 0 0)
+each-start f = every-start f
+
+pub each-done : (f : ℕ → Bool) {b : Bool} {i : ℕ} → b ≡ every f (upFrom 0 i) → i ≡ 32 → b ≡ every f (upFrom 0 32)
+each-done f e q = rw q at e
+
+pub told-both : (ws bs : List ℕ) {b d : Bool} → b ≡ every (markless ws) (upFrom 0 32) → d ≡ every (changeless bs) (upFrom 0 32) → (b && d) ≡ allTold ws bs
+unfolding allTold told
+told-both ws bs p q = rw (p, q) (sym (every-both (markless ws) (changeless bs) 32))
 
 -- ---- groups that start anew
 
@@ -75,14 +92,14 @@ module _ (table ws bs : List ℕ) (all : allTold ws bs ≡ true) where
   group-told g h = every-upFrom (told ws bs) 0 32 all g (omega arith) (omega arith)
 
   words-same : (g : ℕ) → g < 32 → set ws g (unmarked (getD ws g 0)) ≡ ws
-  unfolding told unmarked
+  unfolding told markless changeless unmarked
   words-same g h =
       let z : getD ws g 0 / 256 ≡ 0 = eqb-true _ _ (and-left _ (eqb (getD bs g 0) 0) (group-told g h)) in
       let e : getD ws g 0 % 256 ≡ getD ws g 0 = omega arith in
       rw e (set-getD ws g 0)
 
   changed-same : (g : ℕ) → g < 32 → set bs g (untallied (getD bs g 0)) ≡ bs
-  unfolding told untallied
+  unfolding told markless changeless untallied
   changed-same g h =
       let z : getD bs g 0 ≡ 0 = eqb-true _ _ (and-right (eqb (getD ws g 0 / 256) 0) _ (group-told g h)) in
       ap (set bs g) (sym z) ∙ set-getD bs g 0

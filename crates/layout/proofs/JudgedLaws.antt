@@ -93,6 +93,11 @@ pub both-done : (f g : ℕ → Bool) {b : Bool} {i n : ℕ} → b ≡ (every f (
     → b ≡ (every f (upFrom 0 n) && every g (upFrom 0 n))
 both-done f g e q = rw q at e
 
+-- two tests of each number of the run, at once
+pub every-both : (f g : ℕ → Bool) (n : ℕ) → every (λ k. f k && g k) (upFrom 0 n) ≡ (every f (upFrom 0 n) && every g (upFrom 0 n))
+every-both f g zero = rw (← every-start f, ← every-start g, ← every-start (λ k. f k && g k))
+every-both f g (suc n) = rw (← add-one, every-next, every-next, every-next, every-both f g n, and-cross)
+
 -- two tests that agree on each number of the run
 every-same : (f g : ℕ → Bool) (n : ℕ) → ((k : ℕ) → k < n → f k ≡ g k) → every f (upFrom 0 n) ≡ every g (upFrom 0 n)
 every-same f g zero h = sym (every-start f) ∙ every-start g

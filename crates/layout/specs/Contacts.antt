@@ -9,9 +9,16 @@ use Rattle.chars.specs.Gather.{upFrom, every}
 use Rattle.model.specs.Contacts.{anew, unmarked, untallied}
 use Rattle.layout.specs.Unit.{unitIn, setContacts}
 
--- no mark and no change of group g waits for a reply
+-- group g has no mark, and none of its contacts has changed since its last reply
+unfoldable pub markless : List ℕ → ℕ → Bool
+markless words g = eqb (getD words g 0 / 256) 0
+
+unfoldable pub changeless : List ℕ → ℕ → Bool
+changeless changed g = eqb (getD changed g 0) 0
+
+-- nothing of it waits for a reply
 unfoldable pub told : List ℕ → List ℕ → ℕ → Bool
-told words changed g = eqb (getD words g 0 / 256) 0 && eqb (getD changed g 0) 0
+told words changed g = markless words g && changeless changed g
 
 unfoldable pub allTold : List ℕ → List ℕ → Bool
 allTold words changed = every (told words changed) (upFrom 0 32)

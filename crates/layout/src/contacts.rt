@@ -4,11 +4,10 @@ use super::UNIT;
 use super::WORDS;
 use model::Input;
 ghost use mathlib.Core.Path.{_≡_};
-ghost use Prim.Native.Nat.{_<_};
 ghost use lib.ListN.{getD};
-ghost use lib.Dec.{eqb};
 ghost use Rattle.layout.specs.Unit.{unitIn, putChanged};
-ghost use Rattle.layout.specs.Contacts.{told, allTold};
+ghost use Rattle.chars.specs.Gather.{upFrom, every};
+ghost use Rattle.layout.specs.Contacts.{markless, changeless, allTold};
 
 // A number that is no group's has no contact.
 pub fn changed_of(unit: &[u8; UNIT], group: Input) -> u8
@@ -30,22 +29,30 @@ pub fn put_changed(unit: &mut [u8; UNIT], group: Input, changed: u8)
     }
 }
 
-// ---- judged by numbers that are 0 where nothing waits and with no branch, as the files are
+// ---- judged by what all groups have joined: whole words and characters with nothing between, so that the compiler takes many at once
 
-fn waits<'a>(unit: &'a [u8; UNIT], group: usize) -> u8
-    requires { ⌜ group < 32 ⌝ }
-    ensures { λ r. ⌜ eqb r 0 ≡ told (unitIn (now (unit .entry)) .words) (unitIn (now (unit .entry)) .changed) group ⌝ }
+fn no_mark<'a>(unit: &'a [u8; UNIT]) -> bool
+    ensures { λ r. ⌜ r ≡ every (markless (unitIn (now (unit .entry)) .words)) (upFrom 0 32) ⌝ }
 {
-    let marks = (chars::word_at(unit, WORDS + 2 * group) / 256) as u8;
-    marks | unit[CHANGED + group]
+    let mut joined = 0;
+    for group in 0..32 {
+        joined = joined | chars::word_at(unit, WORDS + 2 * group);
+    }
+    joined < 256
+}
+
+fn no_change<'a>(unit: &'a [u8; UNIT]) -> bool
+    ensures { λ r. ⌜ r ≡ every (changeless (unitIn (now (unit .entry)) .changed)) (upFrom 0 32) ⌝ }
+{
+    let mut joined = 0;
+    for group in 0..32 {
+        joined = joined | unit[CHANGED + group];
+    }
+    joined == 0
 }
 
 pub fn all_told<'a>(unit: &'a [u8; UNIT]) -> bool
     ensures { λ r. ⌜ r ≡ allTold (unitIn (now (unit .entry)) .words) (unitIn (now (unit .entry)) .changed) ⌝ }
 {
-    let mut waiting = 0;
-    for group in 0..32 {
-        waiting = waiting | waits(unit, group);
-    }
-    waiting == 0
+    no_mark(unit) & no_change(unit)
 }
