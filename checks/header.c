@@ -210,6 +210,27 @@ static void records(void)
     expect("the reply's more", 1, kept(OSTURDAM_MEMORY_MORE));
 }
 
+/* Plans are made by an EXECUTE into ordinal 03 and by the call; an outcome that no plan has is told, and so is none afterwards. */
+static void plans(void)
+{
+    static struct osturdam_unit was;
+    configure();
+    osturdam_equip_input(&config, 0x80);
+    start();
+    was = all.unit;
+    osturdam_go_on(&lent);
+    expect("plans of empty tables made anew", 0, memcmp(&was, &all.unit, sizeof was));
+    EXPECT(OSTURDAM_NOT_VALID, ask(ONE, 0x0A, 0x41, "", 0));
+    EXPECT(OSTURDAM_WRITE_TAKEN, ask(ONE, 0x20, 0x30, "\0\0\3", 3));
+    EXPECT(OSTURDAM_DONE, ask(ONE, 0x20, 0x31, "\0\1\x80", 3));
+    EXPECT(OSTURDAM_DONE, ask(ONE, 0x0A, 0x41, "", 0));
+    was = all.unit;
+    all.unit.plans[1] = OSTURDAM_UNKNOWN;
+    EXPECT(OSTURDAM_NOT_CONFIGURED, ask(ONE, 0x0A, 0x41, "", 0));
+    osturdam_go_on(&lent);
+    expect("the plans as they were", 0, memcmp(&was, &all.unit, sizeof was));
+}
+
 /* A full file that keeps the newest drops the oldest record behind those of the latest reply; one whose records are all in it drops none. */
 static void dropped(void)
 {
@@ -430,6 +451,7 @@ int main(void)
     selects_and_writes();
     blocks();
     records();
+    plans();
     dropped();
     packed();
     most_records();

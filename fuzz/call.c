@@ -12,7 +12,7 @@
 enum { SHORTEST_REPLY = 9 };
 
 /* The regions of a unit's memory, of which each kind of event may change some. */
-enum region { LAYOUT, CONFIGURATION, NUMBERS, WORDS, RESULTS, FIXED, COUNTS, DROPPED, CHANGED, TAKEN, REGIONS };
+enum region { LAYOUT, CONFIGURATION, NUMBERS, WORDS, RESULTS, FIXED, COUNTS, DROPPED, CHANGED, TAKEN, PLANS, REGIONS };
 static const struct {
     const char *name;
     size_t from, to;
@@ -26,7 +26,8 @@ static const struct {
     [COUNTS] = {"counts", OSTURDAM_AT_COUNTS, OSTURDAM_AT_DROPPED},
     [DROPPED] = {"numbers dropped", OSTURDAM_AT_DROPPED, OSTURDAM_AT_CHANGED},
     [CHANGED] = {"contacts that changed", OSTURDAM_AT_CHANGED, OSTURDAM_AT_TAKEN},
-    [TAKEN] = {"samples in", OSTURDAM_AT_TAKEN, OSTURDAM_UNIT},
+    [TAKEN] = {"samples in", OSTURDAM_AT_TAKEN, OSTURDAM_AT_PLANS},
+    [PLANS] = {"scan plans", OSTURDAM_AT_PLANS, OSTURDAM_UNIT},
 };
 
 /* What each kind of event may change, as bits of parts and of regions. */
@@ -34,7 +35,8 @@ static const struct {
     unsigned parts, regions;
 } changes[] = {
     [BEGIN] = {1u << BLOCK, (1u << REGIONS) - 1},
-    [HEAR] = {1u << BLOCK | 1u << RECORDS | 1u << BUFFER, 1u << NUMBERS | 1u << WORDS | 1u << FIXED | 1u << COUNTS | 1u << CHANGED},
+    [HEAR] = {1u << BLOCK | 1u << RECORDS | 1u << BUFFER,
+              1u << NUMBERS | 1u << WORDS | 1u << FIXED | 1u << COUNTS | 1u << CHANGED | 1u << PLANS},
     [ELAPSE] = {0, 1u << NUMBERS},
     [SET_WORD] = {0, 1u << WORDS},
     [PULSE] = {0, 1u << WORDS},
@@ -180,7 +182,7 @@ static void check_fresh(const struct call *c)
     struct osturdam_unit u = unit_in(after);
     hold(osturdam_word_at(u.layout) == OSTURDAM_LAYOUT, c, "another layout was laid", "");
     hold(memcmp(&u.config, lent[CONFIG].at, OSTURDAM_CONFIG) == 0, c, "another configuration was laid", "");
-    hold(zeros(lent[UNIT].at + OSTURDAM_AT_WORDS, OSTURDAM_UNIT - OSTURDAM_AT_WORDS), c, "left in a fresh", "unit");
+    hold(zeros(lent[UNIT].at + OSTURDAM_AT_WORDS, OSTURDAM_AT_PLANS - OSTURDAM_AT_WORDS), c, "left in a fresh", "unit");
     hold(zeros(lent[BLOCK].at, lent[BLOCK].length), c, "left in a fresh", "block");
     for (int which = 0; which < OSTURDAM_KEPT; which++) {
         uint16_t wanted = which == OSTURDAM_DAY || which == OSTURDAM_STATUS_CONFIGURE ? 1 : 0;
@@ -342,6 +344,22 @@ static void check_answer(const struct call *c, const struct answer *t)
     hold(!fit || fits(after), c, "a unit in range was left out of it", "");
 }
 
+static struct osturdam_unit replanned(struct osturdam_unit u)
+{
+    osturdam_replan((uint8_t *)&u);
+    return u;
+}
+
+/* Plans made anew change nothing else, and nothing where they are those of the tables: so a call leaves them that found them so. */
+static void check_plans(const struct call *c)
+{
+    struct osturdam_unit was = unit_in(before), is = unit_in(after), found = replanned(was), left = replanned(is), again = replanned(left);
+    bool held = c->kind == BEGIN || memcmp(&found, &was, sizeof was) == 0;
+    hold(memcmp(&left, &is, OSTURDAM_AT_PLANS) == 0, c, "changed by plans made anew:", "unit");
+    hold(memcmp(&again, &left, sizeof left) == 0, c, "other plans the second time", "");
+    hold(!held || memcmp(&left, &is, sizeof is) == 0, c, "plans that are not those of", "the tables");
+}
+
 static bool same(const struct answer *a, const struct answer *b)
 {
     return a->sent == b->sent && a->outcome == b->outcome && a->action == b->action && a->output == b->output &&
@@ -364,6 +382,7 @@ void call_checked(const struct call *c)
     } else {
         check_answer(c, &first);
     }
+    check_plans(c);
     picture_restore(before);
     struct answer again = made_again(c);
     enum part part = picture_differs(after);

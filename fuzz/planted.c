@@ -2,6 +2,7 @@
 #include "osturdam.h"
 
 #include <stdbool.h>
+#include <string.h>
 
 #define PARAMETERS                                                                                                          \
     uint8_t *unit, uint8_t *block, uint64_t length, uint8_t *records, uint64_t room, uint8_t *buffer, uint64_t buffer_room, \
@@ -27,6 +28,8 @@ uint8_t __wrap_osturdam_stretch(PARAMETERS);
 uint8_t __wrap_osturdam_stretch(PARAMETERS)
 {
     static unsigned calls;
+    uint8_t plans[OSTURDAM_PLANS];
+    memcpy(plans, unit + OSTURDAM_AT_PLANS, sizeof plans);
     uint8_t outcome = __real_osturdam_stretch(unit, block, length, records, room, buffer, buffer_room, chars, count, lag, turned);
     uint16_t sent = osturdam_word_at(turned);
     bool answered = sent > 0, done = outcome == OSTURDAM_DONE, refused = outcome == OSTURDAM_NOT_CONFIGURED;
@@ -52,6 +55,7 @@ uint8_t __wrap_osturdam_stretch(PARAMETERS)
     case 18: if (done && buffer[2] == 0) unit[OSTURDAM_AT_WORDS + 1] |= 1; break;         /* a mark that no contact has */
     case 19: if (answered && !done) unit[OSTURDAM_AT_CHANGED] ^= 1; break;               /* a refusal that changes the tally */
     case 15: if (lag > OSTURDAM_LAG_MS && outcome == OSTURDAM_NOT_VALID) outcome = OSTURDAM_DONE; break; /* a lag too long is taken */
+    case 28: if (done) memcpy(unit + OSTURDAM_AT_PLANS, plans, sizeof plans); break;  /* plans older than their tables */
     }
     /* clang-format on */
     return outcome;

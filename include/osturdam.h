@@ -36,7 +36,7 @@ extern "C" {
 /* Of this interface: one more where a call changes, or the meaning of what it takes. Where a unit's memory changes, OSTURDAM_LAYOUT is
  * another, and a unit that was stored in another layout is OSTURDAM_NOT_CONFIGURED. A program holds this header to its library once, before
  * its first unit: osturdam_layout() == OSTURDAM_LAYOUT. */
-#define OSTURDAM_VERSION 7
+#define OSTURDAM_VERSION 8
 
 /* ---- limits, lengths, and where a unit's parts lie in its memory */
 
@@ -64,9 +64,10 @@ enum {
     OSTURDAM_HOLD_MS = 5000,        /* for how long a select or a write is held */
     OSTURDAM_SILENT_MS = 60000,     /* after how long with no stretch a port is silent */
     OSTURDAM_LAG_MS = 10000,        /* the longest lag with which a Set Time is taken */
+    OSTURDAM_PLANS = 112,           /* characters of the scan plans */
     OSTURDAM_CONFIG = 932,          /* characters of a configuration, which lies from AT_NUMBER on in a unit's memory */
-    OSTURDAM_UNIT = 2698,           /* characters of a unit's memory */
-    OSTURDAM_LAYOUT = 5,            /* the number of this layout, which stands first in the memory */
+    OSTURDAM_UNIT = 2810,           /* characters of a unit's memory */
+    OSTURDAM_LAYOUT = 6,            /* the number of this layout, which stands first in the memory */
     OSTURDAM_AT_LAYOUT = 0,
     OSTURDAM_AT_NUMBER = 2,
     OSTURDAM_AT_LENGTH = 4,
@@ -87,6 +88,7 @@ enum {
     OSTURDAM_AT_DROPPED = 2570,
     OSTURDAM_AT_CHANGED = 2634,
     OSTURDAM_AT_TAKEN = 2666,
+    OSTURDAM_AT_PLANS = 2698,
     OSTURDAM_AT_00 = 2010,          /* the block of ordinal 00h */
     OSTURDAM_LENGTH_00 = 16,
     OSTURDAM_AT_03 = 2026,          /* the block of ordinal 03h */
@@ -235,6 +237,7 @@ struct osturdam_unit {
     uint8_t dropped[2 * OSTURDAM_FILES];    /* and how many it has dropped */
     uint8_t changed[OSTURDAM_GROUPS];       /* of each group of contacts: which have changed since its last reply */
     uint8_t taken[2 * OSTURDAM_MEANS];      /* of each place for a mean: how many samples are in */
+    uint8_t plans[OSTURDAM_PLANS];          /* made of the tables (ordinal 03): how each scan of one ends, and where its numbers stand */
 };
 
 /* What a unit's caller lends. Each equipped file has room for OSTURDAM_ROOM records of its own length, one behind the other with the oldest
@@ -307,6 +310,10 @@ uint64_t osturdam_room(const uint8_t config[OSTURDAM_CONFIG]);
 
 /* How many records of a file a unit has dropped: to OSTURDAM_DROPPED, where it stays. Nothing clears it but osturdam_fresh. */
 uint16_t osturdam_dropped(const uint8_t unit[OSTURDAM_UNIT], uint8_t file);
+
+/* Makes every scan plan anew, of the tables and the equipment as they are: to be called once for a unit that was stored, before any event. What
+ * this library's own calls left is not changed by it; plans that were changed elsewhere, or with the tables, are served as they are until then. */
+void osturdam_replan(uint8_t unit[OSTURDAM_UNIT]);
 
 void osturdam_fresh(uint8_t unit[OSTURDAM_UNIT], uint8_t *block, uint64_t length, const uint8_t config[OSTURDAM_CONFIG]);
 
@@ -623,6 +630,13 @@ static inline struct osturdam_lent osturdam_lend(struct osturdam_together *t, co
 static inline void osturdam_begin(const struct osturdam_lent *l, const struct osturdam_config *c)
 {
     osturdam_fresh((uint8_t *)l->unit, l->block, l->length, (const uint8_t *)c);
+}
+
+/* A unit that was stored goes on: its scan plans are made anew. Memory of another layout is left as it is, and told by the first event. */
+static inline void osturdam_go_on(const struct osturdam_lent *l)
+{
+    if (osturdam_word_at(l->unit->layout) == OSTURDAM_LAYOUT)
+        osturdam_replan((uint8_t *)l->unit);
 }
 
 /* A stretch was heard, which had its sync point `lag` milliseconds ago (struct osturdam_heard). Of the buffer the reply alone is written. */

@@ -80,6 +80,31 @@ static void first_table(void)
     ask(0x0A, 0x41, "", 0, 1, OSTURDAM_DONE);
 }
 
+// Table 1 of 16 words.
+static void sixteen(void)
+{
+    uint8_t area[256] = {[1] = 16};
+    for (int i = 0; i < 16; i++)
+        area[2 + i] = 0x80 + i;
+    write_tables(area);
+    ask(0x0A, 0x41, "", 0, 1, OSTURDAM_DONE);
+}
+
+// The last of an area of 15 tables of 15 numbers, each of which names two others.
+static void execute(void)
+{
+    uint8_t area[256] = {0};
+    for (int t = 0; t < 15; t++) {
+        area[17 * t] = (uint8_t)(0x10 * ((t + 1) % 15 + 1) + (t + 7) % 15 + 1);
+        area[17 * t + 1] = 15;
+        for (int i = 0; i < 15; i++)
+            area[17 * t + 2 + i] = (uint8_t)(0x80 + 8 * t + i % 8);
+    }
+    write_tables(area);
+    ask(0x20, 0x30, "\x80\0\x03", 3, 0, OSTURDAM_WRITE_TAKEN);
+    ask(0x20, 0x31, area + 128, 128, 1, OSTURDAM_DONE);
+}
+
 static void values(void)
 {
     ask(0x03, 0x80, "", 0, 1, OSTURDAM_DONE);
@@ -168,11 +193,12 @@ int main(int argc, char **argv)
     static const struct {
         const char *name;
         void (*run)(void);
-    } rows[] = {{"points", points},         {"table", table},         {"last", last_table},      {"first", first_table},
-                {"values", values},         {"dump", dump},           {"marked", marked_points}, {"marked-table", marked_table},
-                {"marked-one", marked_one}, {"store", one_more},      {"swap", swapped},         {"release", release},
-                {"follow", follow},         {"refused", refused},     {"set", set_time},         {"pair", both},
-                {"sample-1", sample_1},     {"sample-16", sample_16}, {"sample-256", sample_256}};
+    } rows[] = {{"points", points},         {"table", table},         {"last", last_table},       {"first", first_table},
+                {"values", values},         {"dump", dump},           {"marked", marked_points},  {"marked-table", marked_table},
+                {"marked-one", marked_one}, {"store", one_more},      {"swap", swapped},          {"release", release},
+                {"follow", follow},         {"refused", refused},     {"set", set_time},          {"pair", both},
+                {"sample-1", sample_1},     {"sample-16", sample_16}, {"sample-256", sample_256}, {"sixteen", sixteen},
+                {"execute", execute}};
     equip(POINTS);
     for (size_t i = 0; argc == 2 && i < sizeof rows / sizeof rows[0]; i++)
         if (strcmp(argv[1], rows[i].name) == 0) {
@@ -180,6 +206,7 @@ int main(int argc, char **argv)
             return 0;
         }
     fprintf(stderr, "usage: rows points | marked | marked-table | marked-one | table | last | first | values | dump | store | swap | "
-                    "release | follow | refused | set | pair | sample-1 | sample-16 | sample-256\n");
+                    "release | follow | refused | set | pair | sample-1 | sample-16 | sample-256 | sixteen | "
+                    "execute\n");
     return 2;
 }

@@ -34,6 +34,8 @@ static void wake(void)
     int found = keep_wake(&kept) && memcmp(&kept.unit.config, &config, sizeof config) == 0;
     const struct osturdam_unit *u = &kept.unit;
     int waits = osturdam_kept_of(u, OSTURDAM_SELECT) == OSTURDAM_HELD || osturdam_kept_of(u, OSTURDAM_WRITE) == OSTURDAM_WAITS;
+    if (found)
+        osturdam_go_on(&lent);
     if (found && osturdam_wait(&lent, waits ? OSTURDAM_HOLD_MS + 1 : 0) == OSTURDAM_DONE)
         return;
     memset(&kept, 0, sizeof kept);

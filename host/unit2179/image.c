@@ -18,7 +18,8 @@
     PART(config.sampled, all.unit.config.sampled) PART(config.windows, all.unit.config.windows)                         \
     PART(numbers, all.unit.numbers) PART(words, all.unit.words) PART(results, all.unit.results)                         \
     PART(fixed, all.unit.fixed) PART(counts, all.unit.counts) PART(dropped, all.unit.dropped)                           \
-    PART(changed, all.unit.changed) PART(taken, all.unit.taken) PART(block, all.block) PART(records, all.records)       \
+    PART(changed, all.unit.changed) PART(taken, all.unit.taken) PART(plans, all.unit.plans) PART(block, all.block)       \
+    PART(records, all.records)                                                                                          \
     PART(journal.history, history) PART(journal.entry, entry)
 /* clang-format on */
 

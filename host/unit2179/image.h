@@ -16,12 +16,12 @@
 #include "osturdam.h"
 
 enum {
-    IMAGE_VERSION = 7,
+    IMAGE_VERSION = 8,
     IMAGE_NAME = 24,
     IMAGE_TITLE = 8 + 2 + 4,
     IMAGE_HEAD = IMAGE_NAME + 4,
     IMAGE_CHECK = 8,
-    IMAGE_REGIONS = 22, /* parts that a unit has */
+    IMAGE_REGIONS = 23, /* parts that a unit has */
     IMAGE_PARTS = IMAGE_REGIONS + 2,
     IMAGE_CHARS = sizeof(struct osturdam_together) + 16,                        /* of all parts: a unit has nothing between them */
     IMAGE = IMAGE_TITLE + IMAGE_PARTS * IMAGE_HEAD + IMAGE_CHARS + IMAGE_CHECK, /* the longest that is written */

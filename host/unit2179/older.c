@@ -29,6 +29,7 @@ uint16_t older_layout(unsigned version)
            : version <= OLDER_UNMARKED  ? 2
            : version <= OLDER_UNTOLD    ? 3
            : version <= OLDER_UNSAMPLED ? 4
+           : version <= OLDER_UNPLANNED ? 5
                                         : OSTURDAM_LAYOUT;
 }
 

@@ -158,6 +158,8 @@ bool store_load(struct store *store, struct kept *kept, bool *found)
         wrong = replayed(store, &order, kept);
     if (!wrong)
         older_bring(kept, order.version);
+    if (!wrong)
+        osturdam_go_on(&lent);
     if (!wrong && osturdam_wait(&lent, 0) == OSTURDAM_NOT_CONFIGURED)
         wrong = "it has a number that no unit keeps";
     if (wrong)

@@ -45,7 +45,7 @@ module _ (cs : List ℕ) {es : List Event} {xs : List Numbered} {y : Owned} (r :
   shown-is : xs ≡ told (trace (configGiven cs) es)
   shown-is = run-trace cs refl (r .area) (r .fresh) (r .room) (r .runs)
 
-  state-is : stateOf (configIn (y .unit)) (keptIn y) ≡ after (configGiven cs) es
+  pub state-is : stateOf (configIn (y .unit)) (keptIn y) ≡ after (configGiven cs) es
   state-is =
       ap (λ (c : Config). stateOf c (keptIn y)) (run-config cs refl (r .area) (r .fresh) (r .room) (r .runs))
       ∙ run-after cs refl (r .area) (r .fresh) (r .room) (r .runs)

@@ -5,3 +5,4 @@ pub mod Unique
 pub mod RunLaws
 pub mod Demand3
 pub mod RoomLaws
+pub mod PlanLaws

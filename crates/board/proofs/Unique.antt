@@ -21,6 +21,7 @@ use Rattle.board.proofs.osturdam_valid.Reads as osturdam-valid
 use Rattle.board.proofs.osturdam_room.Reads as osturdam-room
 use Rattle.board.proofs.osturdam_dropped.Reads as osturdam-dropped
 use Rattle.board.proofs.osturdam_fresh.Reads as osturdam-fresh
+use Rattle.board.proofs.osturdam_replan.Reads as osturdam-replan
 use Rattle.board.proofs.osturdam_stretch.Reads as osturdam-stretch
 use Rattle.board.proofs.osturdam_elapsed.Reads as osturdam-elapsed
 use Rattle.board.proofs.osturdam_contact.Reads as osturdam-contact
@@ -69,6 +70,9 @@ one-osturdam-room κ a x y s t p q = p ∙ sym q
 
 pub one-osturdam-dropped : One osturdam-dropped.Post (λ κ r s. r)
 one-osturdam-dropped κ a x y s t p q = p ∙ sym q
+
+pub one-osturdam-replan-unit : One osturdam-replan.Post (λ κ r s. s .0 .now)
+one-osturdam-replan-unit κ a x y s t p q = p ∙ sym q
 
 pub one-osturdam-fresh-unit : OneWhere (λ κ a s. (length (s .0 .now) ≡ unitLong) × Characters (s .0 .now)) osturdam-fresh.Post (λ κ r s. s .0 .now)
 one-osturdam-fresh-unit κ a x y s t g h p q = one-laid _ _ (g .0) (h .0) (g .1) (h .1) p q .0

@@ -9,6 +9,7 @@ use borrow.Author.Tests.{le-leb, eq-eqb}
 use Rattle.model.specs.Config.{Config, validOf}
 use Rattle.model.specs.State.{heldIn, freshCore, freshAreas, freshHistory, freshPort, freshOf}
 use Rattle.model.specs.Means.{samplesAt}
+use Rattle.model.specs.Plans.{emptyPlans}
 use Rattle.model.specs.Fits.{fits}
 use Rattle.model.specs.declared.Memory.the-variants.{Nothing}
 use Rattle.model.proofs.Conditions.{by-bool}
@@ -48,8 +49,8 @@ fresh-taken cs {n} {lent} {room} {u} f l r =
     let b : lent ≡ c .block = l ∙ ap (λ (y : Unit). y .config .block) x in
     let e : readable (numbersIn u) ≡ true = ap (λ (y : Unit). readable (y .numbers)) x ∙ written-readable fresh-written in
     rw (eq-eqb _ _ (ap (λ (y : Unit). y .layout) x), le-leb (roomOf (configIn u)) room (omega arith), e)
-    ((λ i. fitsBy (x i .config) (b i) (x i .counts) (x i .taken) (coreIn (x i .numbers)) (memoryIn (x i .numbers)) (portIn (x i .numbers)))
-    ∙ (λ i. fitsBy c (c .block) (replicate 32 0) (replicate 16 0) (w .core i) (w .memory i) (w .port i))
+    ((λ i. fitsBy (x i .config) (b i) (x i .plans) (x i .counts) (x i .taken) (coreIn (x i .numbers)) (memoryIn (x i .numbers)) (portIn (x i .numbers)))
+    ∙ (λ i. fitsBy c (c .block) emptyPlans (replicate 32 0) (replicate 16 0) (w .core i) (w .memory i) (w .port i))
     ∙ fits-by c (c .block) (replicate 32 0) (replicate 16 0) freshCore Nothing freshPort (freshAreas c) (replicate 32 []) (replicate 32 0) (length-replicate {A = ℕ} (c .block) 0) (λ p h. none-taken 16 p) (λ g h. none-held 32 g)
     ∙ fresh-valid c)
 

@@ -22,7 +22,9 @@ ghost use lib.ListN.{length, getD};
 ghost use Rattle.checkword.specs.Check.{checkFrom};
 ghost use Rattle.model.specs.Config.{validOf};
 ghost use Rattle.model.specs.Event.{elapsed, setWord, setValue, pulses, store, contact, local};
-ghost use Rattle.layout.specs.Unit.{layoutNumber, unitIn, configGiven};
+ghost use Rattle.model.specs.Tables.{tableArea};
+ghost use Rattle.model.specs.Plans.{plansOf};
+ghost use Rattle.layout.specs.Unit.{layoutNumber, unitIn, configIn, configGiven, putPlans};
 ghost use Rattle.layout.specs.Records.{roomOf};
 ghost use Rattle.layout.specs.Kept.{ownedOf};
 ghost use Rattle.unit.specs.Fresh.{FreshPromise};
@@ -81,6 +83,16 @@ pub extern "C" fn osturdam_fresh(unit: &mut [u8; UNIT], block: &mut [u8], config
     ensures { λ _. ⌜ FreshPromise (now (config .entry)) (length (now (block .entry))) (now (unit .exit)) (now (block .exit)) ⌝ }
 {
     unit::fresh(unit, block, config);
+}
+
+// Every scan plan anew, of the tables and the equipment as they are: for a memory that was kept elsewhere. What a unit's own calls left is not
+// changed by it.
+#[no_mangle]
+pub extern "C" fn osturdam_replan(unit: &mut [u8; UNIT])
+    ensures { λ _. ⌜ now (unit .exit)
+        ≡ putPlans (now (unit .entry)) (plansOf (configIn (now (unit .entry)) .inputs) (tableArea (unitIn (now (unit .entry)) .fixed))) ⌝ }
+{
+    tables::replan(unit);
 }
 
 // How the stretch ended is the result. What is turned: how many characters of the buffer are to be sent, low character first, and what

@@ -37,6 +37,7 @@ use Rattle.layout.specs.Unit.{
   droppedRegion,
   changedRegion,
   takenRegion,
+  plansRegion,
   wordsIn,
   resultsIn,
   configFrom,
@@ -159,4 +160,5 @@ module _ (cs : List ℕ) (long : length cs ≡ configLong) where
         dropped = (ap wordsIn (back droppedRegion (lit< tt) refl refl (lit≤ tt) (lit≤ tt)) ∙ zero-words 32) i;
         changed = back changedRegion (lit< tt) refl refl (lit≤ tt) (lit≤ tt) i;
         taken = (ap wordsIn (back takenRegion (lit< tt) refl refl (lit≤ tt) (lit≤ tt)) ∙ zero-words 16) i;
+        plans = back plansRegion (lit< tt) refl refl (lit≤ tt) (lit≤ tt) i;
       }

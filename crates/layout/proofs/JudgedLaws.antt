@@ -21,6 +21,7 @@ use Rattle.model.specs.State.{Areas, Files, heldIn}
 use Rattle.model.specs.Limits.{mostMeans}
 use Rattle.model.specs.Means.{samplesAt}
 use Rattle.model.specs.Clock.{clockFits}
+use Rattle.model.specs.Plans.{planned, plansFit}
 use Rattle.model.specs.Fits.{fits, areasFit, coreFits, portFits, historyFits, memoryFits, replyFits, fileFits, samplesFit}
 use Rattle.model.specs.declared.Core.{Core}
 use Rattle.model.specs.declared.HistoryReply.{HistoryReply}
@@ -116,17 +117,33 @@ pub none-start : (table : List ℕ) (low : ℕ) → true ≡ noneIn table low 0
 unfolding noneIn every
 none-start table low = rw part-none
 
--- past the end a table reads 0, which is not equipped
+-- past the end a run reads 0, which passes too
+run-next : (f : ℕ → Bool) → f 0 ≡ true → (xs : List ℕ) (low i : ℕ) → every f (part xs low (i + 1)) ≡ (every f (part xs low i) && f (getD xs (low + i) 0))
+run-next f z xs low i =
+    by-bool (ltb (low + i) (length xs))
+    (λ e. let h = ltb-true (low + i) (length xs) e in rw (part-more xs low i h) (every-end f (part xs low i) (getD xs (low + i) 0)))
+    (λ e. let h = ltb-false (low + i) (length xs) e in
+    rw (part-clipped xs low i h, List·getD-eq-default xs 0 {n = low + i} h, z) (sym (and-true _)))
+
 pub none-next : (table : List ℕ) (low i : ℕ) → noneIn table low (i + 1) ≡ (noneIn table low i && eqb (getD table (low + i) 0) 0)
 unfolding noneIn
-none-next table low i =
-    by-bool (ltb (low + i) (length table))
-    (λ e. let h = ltb-true (low + i) (length table) e in rw (part-more table low i h) (every-end (λ x. eqb x 0) (part table low i) (getD table (low + i) 0)))
-    (λ e. let h = ltb-false (low + i) (length table) e in
-    rw (part-clipped table low i h, List·getD-eq-default table 0 {n = low + i} h) (sym (and-true _)))
+none-next table low i = run-next (λ x. eqb x 0) refl table low i
 
 pub none-joined : (table : List ℕ) (low i any : ℕ) → eqb any 0 ≡ noneIn table low i → eqb (bitOr any (getD table (low + i) 0)) 0 ≡ noneIn table low (i + 1)
 none-joined table low i any e = rw (or-none, none-next, e)
+
+-- ---- every outcome of the plans is one
+
+pub plans-start : (xs : List ℕ) → true ≡ every planned (part xs 0 0)
+unfolding every
+plans-start xs = rw part-none
+
+pub plans-next : (xs : List ℕ) (i o : ℕ) {x y : Bool} → x ≡ every planned (part xs 0 i) → y ≡ planned o → getD xs i 0 ≡ o
+    → (x && y) ≡ every planned (part xs 0 (i + 1))
+unfolding planned
+plans-next xs i o p q e =
+    let z : 0 + i ≡ i = omega arith in
+    rw (p, q) (sym (run-next planned refl xs 0 i ∙ rw (z, e)))
 
 -- ---- what stands in for the records
 
@@ -198,18 +215,19 @@ module _ (c : Config) (fs gs : Files) (same : (f : ℕ) → f < 32 → length (h
   history-same m ns ms = rw (every-same (fileFits c fs) (fileFits c gs) 32 file-same, memory-same m)
 
 -- the parts of the judgement, in their order
-fits-parts : (c : Config) (lent : ℕ) (counts taken : List ℕ) (core : Core) (memory : Memory) (port : Port)
-    → fitsBy c lent counts taken core memory port
-    ≡ (validOf c && (portFits port && (coreFits c core && ((eqb lent (c .block) && every (samplesFit c (samplesBy taken)) (upFrom 0 mostMeans)) && historyFits c (record { memory = memory; files = filesBy counts; dropped = [] })))))
+fits-parts : (c : Config) (lent : ℕ) (plans counts taken : List ℕ) (core : Core) (memory : Memory) (port : Port)
+    → fitsBy c lent plans counts taken core memory port
+    ≡ (validOf c && (portFits port && (coreFits c core && ((eqb lent (c .block) && every (samplesFit c (samplesBy taken)) (upFrom 0 mostMeans) && plansFit plans)
+    && historyFits c (record { memory = memory; files = filesBy counts; dropped = [] })))))
 unfolding fitsBy keptBy fits areasFit
-fits-parts c lent counts taken core memory port = rw (length-replicate {A = ℕ} lent 0)
+fits-parts c lent plans counts taken core memory port = rw (length-replicate {A = ℕ} lent 0)
 
 -- judged by the counts, a unit that holds so many records is judged as by its records
 pub fits-by : (c : Config) (lent : ℕ) (counts taken : List ℕ) (core : Core) (memory : Memory) (port : Port) (areas : Areas) (fs : Files) (dropped : List ℕ)
     → length (areas .block) ≡ lent
     → ((p : ℕ) → p < mostMeans → length (samplesAt (areas .samples) p) ≡ getD taken p 0)
     → ((f : ℕ) → f < 32 → length (heldIn fs f) ≡ getD counts f 0)
-    → fitsBy c lent counts taken core memory port
+    → fitsBy c lent (areas .plans) counts taken core memory port
     ≡ fits c (record { inner = record { core = core; areas = areas; history = record { memory = memory; files = fs; dropped = dropped } }; port = port })
 unfolding fits areasFit
 fits-by c lent counts taken core memory port areas fs dropped e many same =
@@ -278,9 +296,18 @@ turned true true true true true true true true true true true true true false l 
 turned true true true true true true true true true true true true true true false o t g s f r = simp and-false
 turned true true true true true true true true true true true true true true true false t g s f r = simp and-false
 
-pub in-turn : (c : Config) (lent : ℕ) (counts taken ks : List ℕ) → length ks ≡ 26
-    → (readable ks && fitsBy c lent counts taken (coreIn ks) (memoryIn ks) (portIn ks))
+-- what is asked of the plans is taken out, and put in again before the memory
+plans-out : (r v p k l n h : Bool) → (r && (v && (p && (k && ((l && n) && h))))) ≡ (n && (r && (v && (p && (k && (l && h))))))
+plans-out r v p k l true h = rw (and-true l)
+plans-out r v p k l false h = rw (and-false l, and-false k, and-false p, and-false v, and-false r)
+
+plans-in : (n k g f s m : Bool) → (n && (k && (g && (f && (s && m))))) ≡ (k && (g && (f && (s && (n && m)))))
+plans-in true k g f s m = refl
+plans-in false k g f s m = rw (and-false s, and-false f, and-false g, and-false k)
+
+pub in-turn : (c : Config) (lent : ℕ) (plans counts taken ks : List ℕ) → length ks ≡ 26
+    → (readable ks && fitsBy c lent plans counts taken (coreIn ks) (memoryIn ks) (portIn ks))
     ≡ (coreJudged c ks && (configJudged c lent
-    && ((every (fileValid c) (upFrom 0 32) && every (fileFits c (filesBy counts)) (upFrom 0 32)) && (meansJudged c taken && memoryJudged c counts ks))))
+    && ((every (fileValid c) (upFrom 0 32) && every (fileFits c (filesBy counts)) (upFrom 0 32)) && (meansJudged c taken && (plansFit plans && memoryJudged c counts ks)))))
 unfolding meansJudged validOf coreFits historyFits coreIn memoryIn clockJudged holdJudged writeJudged bitsJudged memoryJudged portJudged coreJudged configJudged
-in-turn c lent counts taken ks l = rw (readable-parts ks l, fits-parts, turned)
+in-turn c lent plans counts taken ks l = rw (fits-parts, plans-out, readable-parts ks l, turned, plans-in)

@@ -43,6 +43,8 @@ use Rattle.layout.proofs.parts.value_of.Reads as value-of
 use Rattle.layout.proofs.parts.put_value.Reads as put-value
 use Rattle.layout.proofs.parts.fixed_of.Reads as fixed-of
 use Rattle.layout.proofs.parts.put_fixed.Reads as put-fixed
+use Rattle.layout.proofs.plans.plans_of.Reads as plans-of
+use Rattle.layout.proofs.plans.put_plans.Reads as put-plans
 use Rattle.layout.proofs.port.mark_at.Reads as mark-at
 use Rattle.layout.proofs.port.port_in.Reads as port-in
 use Rattle.layout.proofs.port.keep_port.Reads as keep-port
@@ -192,6 +194,12 @@ one-fixed-of κ a x y s t p q = p ∙ sym q
 
 pub one-put-fixed-unit : One put-fixed.Post (λ κ r s. s .0 .now)
 one-put-fixed-unit κ a x y s t p q = p ∙ sym q
+
+pub one-plans-of : One plans-of.Post (λ κ r s. r .now)
+one-plans-of κ a x y s t p q = p ∙ sym q
+
+pub one-put-plans-unit : One put-plans.Post (λ κ r s. s .0 .now)
+one-put-plans-unit κ a x y s t p q = p ∙ sym q
 
 pub one-mark-at : One mark-at.Post (λ κ r s. r)
 one-mark-at κ a x y s t p q = p ∙ sym q

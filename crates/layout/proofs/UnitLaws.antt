@@ -2,24 +2,24 @@
 use mathlib.Core.Path.{_≡_, refl, sym, ap, _∙_}
 use Prim.Native.Nat.{ℕ, zero, suc, _+_, _*_, _/_, _%_, _≤_, _<_}
 use native.Mathlib.Omega.{arith}
-use mathlib.Core.List.{List, [], _∷_}
+use mathlib.Core.List.{List, [], _∷_, _++_}
 use mathlib.Core.Bool.{Bool, true, false, cond}
-use lib.ListN.{length, getD, set, List·getD-eq-default}
+use lib.ListN.{length, getD, set, length-append, List·getD-eq-default}
 use lib.Seq.{set-out}
 use lib.Dec.{lit<, lit≤, leb}
 use borrow.Author.Tests.{le-leb, lt-leb}
 use Rattle.chars.specs.Put.{put, part}
 use Rattle.chars.specs.Word.{word, value, wordAt}
-use Rattle.chars.proofs.PutLaws.{length-put, put-none, put-one}
+use Rattle.chars.proofs.PutLaws.{length-put, put-none, put-one, put-all, put-then}
 use Rattle.chars.proofs.WordLaws.{length-word, length-value}
 use Rattle.model.specs.Config.{Config}
 use Rattle.layout.specs.Regions.{startIn, regionIn, setAt}
-use Rattle.layout.specs.Unit.{Unit, Renumbered, NumbersOnly, numbersIn, configSizes, unitSizes, unitLong, regionStart, layoutRegion, numberRegion, lengthRegion, inputsRegion, outputsRegion, calculationsRegion, filesRegion, valuesRegion, oldestRegion, numbersRegion, wordsRegion, resultsRegion, fixedRegion, countsRegion, droppedRegion, changedRegion, takenRegion, wordsIn, resultsIn, configFrom, unitFrom, unitIn, configIn, setNumbers, setWords, setValues, setFixed, setCounts, setDropped, setChanged, setTaken, putIn, putNumber, putWord, putValue, putFixed, putCount, putCounts, putDropped, putChanged, putTaken}
+use Rattle.layout.specs.Unit.{Unit, Renumbered, NumbersOnly, numbersIn, configSizes, unitSizes, unitLong, regionStart, layoutRegion, numberRegion, lengthRegion, inputsRegion, outputsRegion, calculationsRegion, filesRegion, valuesRegion, oldestRegion, numbersRegion, wordsRegion, resultsRegion, fixedRegion, countsRegion, droppedRegion, changedRegion, takenRegion, plansRegion, wordsIn, resultsIn, configFrom, unitFrom, unitIn, configIn, setNumbers, setWords, setValues, setFixed, setCounts, setDropped, setChanged, setTaken, setPlans, putIn, putNumber, putWord, putValue, putFixed, putCount, putCounts, putDropped, putChanged, putTaken, putPlansAt, putPlans}
 use Rattle.layout.proofs.RegionLaws.{regions-put, region-whole, region-at, region-past, region-part, region-own, region-most}
 
 -- how long a lent unit is: UNIT of src/lib.rt, as the prover tells the length of an array
 abbrev pub unitFigure : ℕ
-unitFigure = 2698
+unitFigure = 2810
 
 -- and a configuration: CONFIG
 abbrev pub configFigure : ℕ
@@ -92,6 +92,10 @@ module _ (r : ℕ → List ℕ) (x : List ℕ) where
   unit-taken : unitFrom (setAt r takenRegion x) ≡ setTaken (unitFrom r) (wordsIn x)
   unfolding unitFrom configFrom setAt
   unit-taken = refl
+
+  unit-plans : unitFrom (setAt r plansRegion x) ≡ setPlans (unitFrom r) x
+  unfolding unitFrom configFrom setAt
+  unit-plans = refl
 
 -- how long each region is
 sizes : (getD unitSizes wordsRegion 0 ≡ 512) × (getD unitSizes resultsRegion 0 ≡ 512) × (getD unitSizes fixedRegion 0 ≡ 528) × (getD unitSizes countsRegion 0 ≡ 32)
@@ -207,6 +211,24 @@ module _ (u : List ℕ) (long : length u ≡ unitLong) where
 pub fixed-written : (u : List ℕ) (at : ℕ) (ys : List ℕ) → at + length ys ≤ 528 → unitIn (putFixed u at ys) ≡ setFixed (unitIn u) (put (unitIn u .fixed) at ys)
 unfolding unitSizes unitFrom
 fixed-written u at ys h = unit-put u fixedRegion at ys h ∙ unit-fixed _ _
+
+-- characters of the plans, those behind them, and all plans anew
+pub plans-put : (u : List ℕ) (at : ℕ) (ps : List ℕ) → at + length ps ≤ 112 → unitIn (putPlansAt u at ps) ≡ setPlans (unitIn u) (put (unitIn u .plans) at ps)
+unfolding unitSizes unitFrom
+plans-put u at ps h = unit-put u plansRegion at ps h ∙ unit-plans _ _
+
+pub plans-then : (u v w : List ℕ) (at n : ℕ) (ys zs : List ℕ) → n + length zs ≤ 112 → v ≡ putPlansAt u at ys → n ≡ at + length ys → w ≡ putPlansAt v n zs
+    → w ≡ putPlansAt u at (ys ++ zs)
+unfolding unitSizes
+plans-then u v w at n ys zs h e l k =
+    put-then u v w (regionStart plansRegion + at) (regionStart plansRegion + n) ys zs (e ∙ put-in u plansRegion at ys (omega arith)) (omega arith) (k ∙ put-in v plansRegion n zs h)
+    ∙ sym (put-in u plansRegion at (ys ++ zs) (omega (arith, length-append ys zs)))
+
+pub plans-written : (u ps : List ℕ) → length u ≡ unitLong → length ps ≡ 112 → unitIn (putPlans u ps) ≡ setPlans (unitIn u) ps
+unfolding unitSizes unitFrom
+plans-written u ps long e =
+    unit-put u plansRegion 0 ps (omega arith) ∙ unit-plans _ _
+    ∙ ap (setPlans (unitIn u)) (put-all _ ps (region-size u long plansRegion (lit< tt) ∙ sym e))
 
 pub count-written : (u : List ℕ) (f n : ℕ) → f < 32 → unitIn (putCount u f n) ≡ setCounts (unitIn u) (set (unitIn u .counts) f n)
 unfolding unitSizes unitFrom
@@ -335,10 +357,19 @@ value-past u n h =
     let p : (i : ℕ) → 512 ≤ i → getD (regionIn unitSizes u resultsRegion) i 0 ≡ 0 = region-past unitSizes u resultsRegion in
     values-at (regionIn unitSizes u resultsRegion) n ∙ rw (p (4 * n) (omega arith), p (4 * n + 1) (omega arith), p (4 * n + 2) (omega arith), p (4 * n + 2 + 1) (omega arith))
 
--- the fixed area is a part of the memory
-pub fixed-is : (u : List ℕ) → unitIn u .fixed ≡ part u (regionStart fixedRegion) 528
-unfolding unitFrom unitSizes
-fixed-is u = region-part unitSizes u fixedRegion (lit< tt)
+-- the fixed area and the plans are parts of the memory
+module _ (u : List ℕ) where
+  pub fixed-is : unitIn u .fixed ≡ part u (regionStart fixedRegion) 528
+  unfolding unitFrom unitSizes
+  fixed-is = region-part unitSizes u fixedRegion (lit< tt)
+
+  pub plans-is : unitIn u .plans ≡ part u (regionStart plansRegion) 112
+  unfolding unitFrom unitSizes
+  plans-is = region-part unitSizes u plansRegion (lit< tt)
+
+  pub plan-at : (i : ℕ) → i < 112 → getD (unitIn u .plans) i 0 ≡ getD u (regionStart plansRegion + i) 0
+  unfolding unitFrom unitSizes
+  plan-at i h = region-at unitSizes u plansRegion i h
 
 -- ---- whole regions anew
 

@@ -121,7 +121,8 @@ module _ (u v : List ℕ) (l : length u ≡ unitLong) (m : length v ≡ unitLong
   region-one (suc (suc (suc (suc (suc (suc (suc (suc (suc (suc (suc (suc (suc (suc (suc (suc (suc zero))))))))))))))))) = words-one _ _ (long-u 17 (lit< tt) ∙ sym (long-v 17 (lit< tt))) (chars-u 17) (chars-v 17) (ap (λ (x : Unit). x .dropped) e)
   region-one (suc (suc (suc (suc (suc (suc (suc (suc (suc (suc (suc (suc (suc (suc (suc (suc (suc (suc zero)))))))))))))))))) = ap (λ (x : Unit). x .changed) e
   region-one (suc (suc (suc (suc (suc (suc (suc (suc (suc (suc (suc (suc (suc (suc (suc (suc (suc (suc (suc zero))))))))))))))))))) = words-one _ _ (long-u 19 (lit< tt) ∙ sym (long-v 19 (lit< tt))) (chars-u 19) (chars-v 19) (ap (λ (x : Unit). x .taken) e)
-  region-one (suc (suc (suc (suc (suc (suc (suc (suc (suc (suc (suc (suc (suc (suc (suc (suc (suc (suc (suc (suc j)))))))))))))))))))) = refl
+  region-one (suc (suc (suc (suc (suc (suc (suc (suc (suc (suc (suc (suc (suc (suc (suc (suc (suc (suc (suc (suc zero)))))))))))))))))))) = ap (λ (x : Unit). x .plans) e
+  region-one (suc (suc (suc (suc (suc (suc (suc (suc (suc (suc (suc (suc (suc (suc (suc (suc (suc (suc (suc (suc (suc j))))))))))))))))))))) = refl
 
   pub unit-one : u ≡ v
   unit-one = regions-one unitSizes u v l m region-one

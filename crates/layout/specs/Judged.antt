@@ -47,27 +47,27 @@ filesBy counts = map (λ n. replicate n []) counts
 unfoldable pub samplesBy : List ℕ → List (List ℕ)
 samplesBy taken = map (λ n. replicate n 0) taken
 
--- a kept state with a block of that length and as many records and samples as counted: what else it holds, fits never asks
-unfoldable pub keptBy : ℕ → List ℕ → List ℕ → Core → Memory → Port → State
-keptBy lent counts taken core memory port =
+-- a kept state with a block of that length, those plans and as many records and samples as counted: what else it holds, fits never asks
+unfoldable pub keptBy : ℕ → List ℕ → List ℕ → List ℕ → Core → Memory → Port → State
+keptBy lent plans counts taken core memory port =
     record {
       inner = record {
         core = core;
-        areas = record { words = []; values = []; fixed = []; block = replicate lent 0; changed = []; samples = samplesBy taken };
+        areas = record { words = []; values = []; fixed = []; block = replicate lent 0; changed = []; samples = samplesBy taken; plans = plans };
         history = record { memory = memory; files = filesBy counts; dropped = [] };
       };
       port = port;
     }
 
--- fits, of a unit of which only the length of the block and the numbers of records and samples are at hand
-unfoldable pub fitsBy : Config → ℕ → List ℕ → List ℕ → Core → Memory → Port → Bool
-fitsBy c lent counts taken core memory port = fits c (keptBy lent counts taken core memory port)
+-- fits, of a unit of which only the length of the block, the plans and the numbers of records and samples are at hand
+unfoldable pub fitsBy : Config → ℕ → List ℕ → List ℕ → List ℕ → Core → Memory → Port → Bool
+fitsBy c lent plans counts taken core memory port = fits c (keptBy lent plans counts taken core memory port)
 
 -- the same of a unit's memory, with the room that is lent for records: of this layout, enough room, and numbers of a unit, which fits
 unfoldable pub fitsIn : List ℕ → ℕ → ℕ → Bool
 fitsIn u lent room =
     eqb (unitIn u .layout) layoutNumber && (leb (roomOf (configIn u)) room
-    && (readable (unitIn u .numbers) && fitsBy (configIn u) lent (unitIn u .counts) (unitIn u .taken)
+    && (readable (unitIn u .numbers) && fitsBy (configIn u) lent (unitIn u .plans) (unitIn u .counts) (unitIn u .taken)
     (coreIn (unitIn u .numbers)) (memoryIn (unitIn u .numbers)) (portIn (unitIn u .numbers))))
 
 -- ---- the same part by part: numbers that a unit writes for what they mean, which is in range

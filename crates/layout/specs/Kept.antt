@@ -27,9 +27,10 @@ pub record Kept : Type 0 where
   pub dropped : List ℕ
   pub changed : List ℕ
   pub taken : List ℕ
+  pub plans : List ℕ
 
-abbrev pub keptOf : Core → Memory → Port → List ℕ → List ℕ → List ℕ → List ℕ → List ℕ → List ℕ → List ℕ → List ℕ → List ℕ → Kept
-keptOf core memory port words results fixed block area counts dropped changed taken =
+abbrev pub keptOf : Core → Memory → Port → List ℕ → List ℕ → List ℕ → List ℕ → List ℕ → List ℕ → List ℕ → List ℕ → List ℕ → List ℕ → Kept
+keptOf core memory port words results fixed block area counts dropped changed taken plans =
     record {
       core = core;
       memory = memory;
@@ -43,10 +44,12 @@ keptOf core memory port words results fixed block area counts dropped changed ta
       dropped = dropped;
       changed = changed;
       taken = taken;
+      plans = plans;
     }
 
-abbrev pub areasOf : List ℕ → List ℕ → List ℕ → List ℕ → List ℕ → List (List ℕ) → Areas
-areasOf words results fixed block changed samples = record { words = words; values = results; fixed = fixed; block = block; changed = changed; samples = samples }
+abbrev pub areasOf : List ℕ → List ℕ → List ℕ → List ℕ → List ℕ → List (List ℕ) → List ℕ → Areas
+areasOf words results fixed block changed samples plans =
+    record { words = words; values = results; fixed = fixed; block = block; changed = changed; samples = samples; plans = plans }
 
 abbrev pub innerOf : Core → Areas → Memory → Files → List ℕ → Inner
 innerOf core areas memory fs dropped = record { core = core; areas = areas; history = record { memory = memory; files = fs; dropped = dropped } }
@@ -55,7 +58,7 @@ innerOf core areas memory fs dropped = record { core = core; areas = areas; hist
 abbrev pub stateLaid : Layout → Config → Kept → State
 stateLaid l c k =
     record {
-      inner = innerOf (k .core) (areasOf (k .words) (k .results) (k .fixed) (k .block) (k .changed) (samplesLaid l (k .area) (k .taken))) (k .memory) (filesLaid l (c .values) (k .area) (k .counts)) (k .dropped);
+      inner = innerOf (k .core) (areasOf (k .words) (k .results) (k .fixed) (k .block) (k .changed) (samplesLaid l (k .area) (k .taken)) (k .plans)) (k .memory) (filesLaid l (c .values) (k .area) (k .counts)) (k .dropped);
       port = k .port;
     }
 
@@ -66,7 +69,7 @@ stateOf c k = stateLaid (packed c) c k
 
 -- the areas of a unit's memory, its parameter block and samples
 abbrev pub areasBy : Unit → List ℕ → List (List ℕ) → Areas
-areasBy x block ss = areasOf (x .words) (x .values) (x .fixed) block (x .changed) ss
+areasBy x block ss = areasOf (x .words) (x .values) (x .fixed) block (x .changed) ss (x .plans)
 
 abbrev pub areasIn : List ℕ → List ℕ → List (List ℕ) → Areas
 areasIn u block ss = areasBy (unitIn u) block ss
@@ -101,7 +104,7 @@ ownedOf unit block area = record { unit = unit; block = block; area = area }
 
 -- the unit that it means
 abbrev pub keptBy : Core → Memory → Port → Unit → List ℕ → List ℕ → Kept
-keptBy core memory port x block area = keptOf core memory port (x .words) (x .values) (x .fixed) block area (x .counts) (x .dropped) (x .changed) (x .taken)
+keptBy core memory port x block area = keptOf core memory port (x .words) (x .values) (x .fixed) block area (x .counts) (x .dropped) (x .changed) (x .taken) (x .plans)
 
 abbrev pub keptIn : Owned → Kept
 keptIn x =

@@ -21,9 +21,9 @@ configSizes = 2 ∷ 2 ∷ 256 ∷ 256 ∷ 256 ∷ 32 ∷ 32 ∷ 32 ∷ 16 ∷ 16
 
 -- what a unit keeps: the numbers of clock, select, write, status, latest history reply and port, the input words, the calculation
 -- values, the fixed blocks, the record counts, the numbers of dropped records, the contacts that changed, how many
--- samples of each mean are in
+-- samples of each mean are in, the scan plans
 abbrev pub keptSizes : List ℕ
-keptSizes = 52 ∷ 512 ∷ 512 ∷ 528 ∷ 32 ∷ 64 ∷ 32 ∷ 32 ∷ []
+keptSizes = 52 ∷ 512 ∷ 512 ∷ 528 ∷ 32 ∷ 64 ∷ 32 ∷ 32 ∷ 112 ∷ []
 
 -- first the number of this layout, so that a memory of another is never misread
 unfoldable pub unitSizes : List ℕ
@@ -89,6 +89,9 @@ changedRegion = 18
 abbrev pub takenRegion : ℕ
 takenRegion = 19
 
+abbrev pub plansRegion : ℕ
+plansRegion = 20
+
 -- where a region of a unit starts
 abbrev pub regionStart : ℕ → ℕ
 regionStart k = startIn unitSizes k
@@ -103,7 +106,7 @@ configLong = startIn configSizes (length configSizes)
 
 -- the number of this layout
 abbrev pub layoutNumber : ℕ
-layoutNumber = 5
+layoutNumber = 6
 
 unfoldable pub placesOf : Places
 placesOf =
@@ -128,6 +131,7 @@ placesOf =
       dropped = regionStart droppedRegion;
       changed = regionStart changedRegion;
       taken = regionStart takenRegion;
+      plans = regionStart plansRegion;
       config = configLong;
       unit = unitLong;
       current = layoutNumber;
@@ -162,6 +166,7 @@ pub record Unit : Type 0 where
   pub dropped : List ℕ
   pub changed : List ℕ
   pub taken : List ℕ
+  pub plans : List ℕ
 
 unfoldable pub configFrom : (ℕ → List ℕ) → Config
 configFrom r =
@@ -192,6 +197,7 @@ unitFrom r =
       dropped = wordsIn (r droppedRegion);
       changed = r changedRegion;
       taken = wordsIn (r takenRegion);
+      plans = r plansRegion;
     }
 
 abbrev pub unitIn : List ℕ → Unit
@@ -203,31 +209,35 @@ configIn u = unitIn u .config
 -- ---- a part anew
 
 abbrev pub setNumbers : Unit → List ℕ → Unit
-setNumbers x ks = record { layout = x .layout; config = x .config; numbers = ks; words = x .words; values = x .values; fixed = x .fixed; counts = x .counts; dropped = x .dropped; changed = x .changed; taken = x .taken }
+setNumbers x ks = record { layout = x .layout; config = x .config; numbers = ks; words = x .words; values = x .values; fixed = x .fixed; counts = x .counts; dropped = x .dropped; changed = x .changed; taken = x .taken; plans = x .plans }
 
 abbrev pub setWords : Unit → List ℕ → Unit
-setWords x ws = record { layout = x .layout; config = x .config; numbers = x .numbers; words = ws; values = x .values; fixed = x .fixed; counts = x .counts; dropped = x .dropped; changed = x .changed; taken = x .taken }
+setWords x ws = record { layout = x .layout; config = x .config; numbers = x .numbers; words = ws; values = x .values; fixed = x .fixed; counts = x .counts; dropped = x .dropped; changed = x .changed; taken = x .taken; plans = x .plans }
 
 abbrev pub setValues : Unit → List ℕ → Unit
-setValues x vs = record { layout = x .layout; config = x .config; numbers = x .numbers; words = x .words; values = vs; fixed = x .fixed; counts = x .counts; dropped = x .dropped; changed = x .changed; taken = x .taken }
+setValues x vs = record { layout = x .layout; config = x .config; numbers = x .numbers; words = x .words; values = vs; fixed = x .fixed; counts = x .counts; dropped = x .dropped; changed = x .changed; taken = x .taken; plans = x .plans }
 
 abbrev pub setFixed : Unit → List ℕ → Unit
-setFixed x fs = record { layout = x .layout; config = x .config; numbers = x .numbers; words = x .words; values = x .values; fixed = fs; counts = x .counts; dropped = x .dropped; changed = x .changed; taken = x .taken }
+setFixed x fs = record { layout = x .layout; config = x .config; numbers = x .numbers; words = x .words; values = x .values; fixed = fs; counts = x .counts; dropped = x .dropped; changed = x .changed; taken = x .taken; plans = x .plans }
 
 abbrev pub setCounts : Unit → List ℕ → Unit
-setCounts x ns = record { layout = x .layout; config = x .config; numbers = x .numbers; words = x .words; values = x .values; fixed = x .fixed; counts = ns; dropped = x .dropped; changed = x .changed; taken = x .taken }
+setCounts x ns = record { layout = x .layout; config = x .config; numbers = x .numbers; words = x .words; values = x .values; fixed = x .fixed; counts = ns; dropped = x .dropped; changed = x .changed; taken = x .taken; plans = x .plans }
 
 abbrev pub setDropped : Unit → List ℕ → Unit
 setDropped x ns =
-    record { layout = x .layout; config = x .config; numbers = x .numbers; words = x .words; values = x .values; fixed = x .fixed; counts = x .counts; dropped = ns; changed = x .changed; taken = x .taken }
+    record { layout = x .layout; config = x .config; numbers = x .numbers; words = x .words; values = x .values; fixed = x .fixed; counts = x .counts; dropped = ns; changed = x .changed; taken = x .taken; plans = x .plans }
 
 abbrev pub setChanged : Unit → List ℕ → Unit
 setChanged x bs =
-    record { layout = x .layout; config = x .config; numbers = x .numbers; words = x .words; values = x .values; fixed = x .fixed; counts = x .counts; dropped = x .dropped; changed = bs; taken = x .taken }
+    record { layout = x .layout; config = x .config; numbers = x .numbers; words = x .words; values = x .values; fixed = x .fixed; counts = x .counts; dropped = x .dropped; changed = bs; taken = x .taken; plans = x .plans }
 
 abbrev pub setTaken : Unit → List ℕ → Unit
 setTaken x ns =
-    record { layout = x .layout; config = x .config; numbers = x .numbers; words = x .words; values = x .values; fixed = x .fixed; counts = x .counts; dropped = x .dropped; changed = x .changed; taken = ns }
+    record { layout = x .layout; config = x .config; numbers = x .numbers; words = x .words; values = x .values; fixed = x .fixed; counts = x .counts; dropped = x .dropped; changed = x .changed; taken = ns; plans = x .plans }
+
+abbrev pub setPlans : Unit → List ℕ → Unit
+setPlans x ps =
+    record { layout = x .layout; config = x .config; numbers = x .numbers; words = x .words; values = x .values; fixed = x .fixed; counts = x .counts; dropped = x .dropped; changed = x .changed; taken = x .taken; plans = ps }
 
 -- the words and the contacts that changed
 abbrev pub setContacts : Unit → List ℕ → List ℕ → Unit
@@ -266,6 +276,13 @@ putChanged u g b = putIn u changedRegion g (b ∷ [])
 
 abbrev pub putTaken : List ℕ → ℕ → ℕ → List ℕ
 putTaken u p n = putIn u takenRegion (2 * p) (word n)
+
+-- characters of the plans, and all plans anew
+abbrev pub putPlansAt : List ℕ → ℕ → List ℕ → List ℕ
+putPlansAt u at ps = putIn u plansRegion at ps
+
+abbrev pub putPlans : List ℕ → List ℕ → List ℕ
+putPlans u ps = putPlansAt u 0 ps
 
 -- the kept numbers
 abbrev pub numbersIn : List ℕ → List ℕ
@@ -312,4 +329,5 @@ blankOf c =
       dropped = replicate 32 0;
       changed = replicate 32 0;
       taken = replicate 16 0;
+      plans = replicate 112 0;
     }

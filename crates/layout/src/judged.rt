@@ -8,6 +8,7 @@ use super::files::files_judged;
 use super::means::means_fit;
 use super::memory::memory_judged;
 use super::parts::layout_of;
+use super::plans::plans_judged;
 ghost use mathlib.Core.Path.{_≡_};
 ghost use Rattle.layout.specs.Judged.{fitsIn};
 
@@ -21,5 +22,6 @@ pub fn fits<'a>(unit: &'a [u8; UNIT], lent: usize, room: usize) -> bool
     layout_of(unit) == CURRENT
         && (core_judged(unit)
             && (config_judged(unit, lent)
-                && (files_judged(unit) && (means_fit(unit, room) && memory_judged(unit)))))
+                && (files_judged(unit)
+                    && (means_fit(unit, room) && (plans_judged(unit) && memory_judged(unit))))))
 }

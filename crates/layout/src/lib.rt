@@ -10,6 +10,7 @@ mod means;
 mod memory;
 mod numbers;
 mod parts;
+mod plans;
 mod port;
 mod records;
 mod select;
@@ -55,6 +56,8 @@ pub use parts::put_value;
 pub use parts::put_word;
 pub use parts::value_of;
 pub use parts::word_of;
+pub use plans::plans_of;
+pub use plans::put_plans;
 pub use port::keep_port;
 pub use port::mark_at;
 pub use port::port_in;
@@ -78,7 +81,7 @@ ghost use Rattle.layout.specs.Unit.{placesOf};
 // The number of this layout.
 const LAYOUT: usize = 0;
 
-pub const CURRENT: u16 = 5;
+pub const CURRENT: u16 = 6;
 
 // The configuration.
 const NUMBER: usize = LAYOUT + 2;
@@ -105,7 +108,7 @@ const WINDOWS: usize = SAMPLED + 16;
 
 pub const CONFIG: usize = WINDOWS + 32 - NUMBER;
 
-// What the unit keeps: 26 numbers, then points, blocks, counts, numbers dropped, contacts that changed and how many samples are in.
+// What the unit keeps: 26 numbers, then points, blocks, counts, numbers dropped, contacts that changed, how many samples are in, and plans.
 const NUMBERS: usize = NUMBER + CONFIG;
 
 const WORDS: usize = NUMBERS + 52;
@@ -122,7 +125,9 @@ const CHANGED: usize = DROPPED + 64;
 
 const TAKEN: usize = CHANGED + 32;
 
-pub const UNIT: usize = TAKEN + 32;
+const PLANS: usize = TAKEN + 32;
+
+pub const UNIT: usize = PLANS + 112;
 
 // Where the regions start, how long a configuration and how long a unit is.
 pub struct Places {
@@ -146,6 +151,7 @@ pub struct Places {
     pub dropped: usize,
     pub changed: usize,
     pub taken: usize,
+    pub plans: usize,
     pub config: usize,
     pub unit: usize,
     pub current: u16,
@@ -176,6 +182,7 @@ pub fn told() -> Places
         dropped: DROPPED,
         changed: CHANGED,
         taken: TAKEN,
+        plans: PLANS,
         config: CONFIG,
         unit: UNIT,
         current: CURRENT,

@@ -52,6 +52,7 @@ use Rattle.model.specs.History.{
   storedWhen,
   storedAs,
 }
+use Rattle.model.specs.Plans.{emptyPlans, planned, plansFit}
 use Rattle.model.specs.Fits.{
   masterFits,
   holdFits,
@@ -248,10 +249,10 @@ table =
 
 -- ---- pairs (Request 5)
 
--- 20h/30h for ordinal 03 from its start on and 20h/31h of so many characters 7, in one stretch with these addresses
+-- 20h/30h for ordinal 0Bh from its start on and 20h/31h of so many characters 7, in one stretch with these addresses
 unfoldable pub both : ℕ → ℕ → ℕ → List ℕ
 both a b n =
-    frameChars (record { address = a; function = 0x20; command = 0x30; body = 0 ∷ 0 ∷ 3 ∷ [] })
+    frameChars (record { address = a; function = 0x20; command = 0x30; body = 0 ∷ 0 ∷ 0x0B ∷ [] })
     ++ frameChars (record { address = b; function = 0x20; command = 0x31; body = replicate n 7 })
 
 -- of master 1 to unit 1234, to another unit, and to all; of master 2
@@ -265,7 +266,7 @@ unfoldable pub toAll : Event
 toAll = hears (both 0x0FFF 0x0FFF 2)
 
 unfoldable pub writesOther : Event
-writesOther = hears (frameChars (record { address = 0x14D2; function = 0x20; command = 0x30; body = 0 ∷ 0 ∷ 3 ∷ [] }))
+writesOther = hears (frameChars (record { address = 0x14D2; function = 0x20; command = 0x30; body = 0 ∷ 0 ∷ 0x0B ∷ [] }))
 
 -- each with the EXECUTE that comes next, which tells if a write still waits
 unfoldable pub twice : List Event → Event → List ℕ
@@ -276,7 +277,7 @@ pairTable =
     -- taken: the reply is the EXECUTE's, its characters are there, and the write is gone
     record {
       number = 1;
-      made = twice [] (pair 2) ++ (part (replyOf (wider 1) [] (pair 2)) 0 7 ++ part (after (wider 1) (pair 2 ∷ []) .inner .areas .fixed) 15 4);
+      made = twice [] (pair 2) ++ (part (replyOf (wider 1) [] (pair 2)) 0 7 ++ part (after (wider 1) (pair 2 ∷ []) .inner .areas .fixed) 271 4);
       told = 0 ∷ 14 ∷ 0xD2 ∷ 0x0C ∷ 0x20 ∷ 0x80 ∷ 0x54 ∷ 0 ∷ 0 ∷ 0 ∷ 7 ∷ 7 ∷ 0 ∷ [];
     }
     -- without characters of data it is 7, and the write is gone
@@ -334,6 +335,7 @@ unfolding
     bcd fromBcd digits clockFits timeIn digitsFit timeFits setTimeOf timeOf clockAt clockAfter
     acknowledges dumps fileOf flat historyChars freedFor mostOf toldFrom tellOf historyOf recordChars keepsOldest sparedIn fullAs storedWhen storedAs
     masterFits holdFits writeFits coreFits givable replyFits memoryFits fileFits historyFits samplesAt samplesFit areasFit portFits fits
+    emptyPlans planned plansFit
     controlled timed written executed scanned internalOf otherOf statusOf sentAs answered quiet settled finished alone telling internalStep stepOf
     areasLeft areasAnew groupsCarried asksFor groupIn anew unmarked untallied twoBit served framed broadcastOf broadcastMade followed judged brokenOff coreAfter elapsedMade localMade wordMade notedIn storeMade localOf makeOf
     markNumber portStatus sentChars markAfter silentAfter portHeard portAfter short turnedAway shows moves decided resultOf nextOf afterFrom

@@ -29,7 +29,8 @@ use Rattle.model.specs.Run.{short, turnedAway, shows, moves, decided, re
 use Rattle.model.specs.Bench.{benchConfig, hears}
 use Rattle.model.specs.declared.Action.{Action}
 use Rattle.model.specs.declared.Action.the-variants.{Rest, Operate}
-use Rattle.model.specs.Tables.{standsAt, tableAt, endOf, startOf, tableOf, sendable, wordIn, sendOf, scanNumbers, tableScan, tableArea, tablesOf}
+use Rattle.model.specs.Tables.{standsAt, tableAt, endOf, startOf, tableOf, sendable, wordIn, sendOf, scanNumbers, tableScan, tableArea, tableAsked}
+use Rattle.model.specs.Plans.{outcomeFor, partOf, partsOf, plansOf, emptyPlans, planned, plansFit, plannedPart, plannedNumbers, plannedScan, plannedOf}
 
 -- the bench unit with the groups 0 and 2, and the simple status 30h
 unfoldable pub panel : Config
@@ -97,7 +98,8 @@ pub record Worked : Type 0 where
 
 pub worked : Worked
 unfolding
-    benchConfig put part word value wordAt gather upFrom bitStep bitSteps charStep checkFrom unitOf masterOf whole checked frameIn commands paired heardOf requestIn withCheck frameChars headChars replyChars damaged replyFunction has within accumulator every noneIn fileValid windowAt meanValid meansValid validOf hasFile hasCalculation sizeOf heldIn storeIn cutIn applied droppedAfter addedBy changedBy freshCore freshAreas freshHistory freshPort freshOf counts withNoData unreserved chosen wordOf inputsOf hasAccumulator pulsesOf isOf takes selectWhen operateWhen selectOf controlOf operates breaks heldAfter known ordinalStart blockOf reaches waitsFor writeWhen writeOf notExecuted executes executeWhen executeOf dropped waitsAfter bcd fromBcd digits clockFits timeIn digitsFit timeFits setTimeOf timeOf clockAt clockAfter acknowledges dumps fileOf flat historyChars freedFor mostOf toldFrom tellOf historyOf recordChars keepsOldest sparedIn fullAs storedWhen storedAs masterFits holdFits writeFits coreFits givable replyFits memoryFits fileFits historyFits samplesAt samplesFit areasFit portFits fits controlled timed written executed scanned internalOf otherOf statusOf sentAs answered quiet settled finished alone telling internalStep stepOf areasLeft areasAnew groupsCarried asksFor groupIn anew unmarked untallied twoBit served framed broadcastOf broadcastMade followed judged brokenOff coreAfter elapsedMade localMade wordMade notedIn storeMade localOf makeOf markNumber portStatus sentChars markAfter silentAfter portHeard portAfter short turnedAway shows moves decided resultOf nextOf afterFrom panel asks closes opens polls pollsOther said ends tabled settable setWordOf bitIn withBit wordAfter changedAfter contactOf contactMade standsAt tableAt endOf startOf tableOf sendable wordIn sendOf scanNumbers tableScan tableArea tablesOf
+    benchConfig put part word value wordAt gather upFrom bitStep bitSteps charStep checkFrom unitOf masterOf whole checked frameIn commands paired heardOf requestIn withCheck frameChars headChars replyChars damaged replyFunction has within accumulator every noneIn fileValid windowAt meanValid meansValid validOf hasFile hasCalculation sizeOf heldIn storeIn cutIn applied droppedAfter addedBy changedBy freshCore freshAreas freshHistory freshPort freshOf counts withNoData unreserved chosen wordOf inputsOf hasAccumulator pulsesOf isOf takes selectWhen operateWhen selectOf controlOf operates breaks heldAfter known ordinalStart blockOf reaches waitsFor writeWhen writeOf notExecuted executes executeWhen executeOf dropped waitsAfter bcd fromBcd digits clockFits timeIn digitsFit timeFits setTimeOf timeOf clockAt clockAfter acknowledges dumps fileOf flat historyChars freedFor mostOf toldFrom tellOf historyOf recordChars keepsOldest sparedIn fullAs storedWhen storedAs masterFits holdFits writeFits coreFits givable replyFits memoryFits fileFits historyFits samplesAt samplesFit areasFit portFits fits controlled timed written executed scanned internalOf otherOf statusOf sentAs answered quiet settled finished alone telling internalStep stepOf areasLeft areasAnew groupsCarried asksFor groupIn anew unmarked untallied twoBit served framed broadcastOf broadcastMade followed judged brokenOff coreAfter elapsedMade localMade wordMade notedIn storeMade localOf makeOf markNumber portStatus sentChars markAfter silentAfter portHeard portAfter short turnedAway shows moves decided resultOf nextOf afterFrom panel asks closes opens polls pollsOther said ends tabled settable setWordOf bitIn withBit wordAfter changedAfter contactOf contactMade standsAt tableAt endOf startOf tableOf sendable wordIn sendOf scanNumbers tableScan tableArea tableAsked
+    emptyPlans planned plansFit plansOf outcomeFor partsOf partOf plannedPart plannedNumbers plannedScan plannedOf
 worked =
     record {
       once = refl;

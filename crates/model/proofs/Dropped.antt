@@ -36,6 +36,7 @@ use Rattle.model.specs.History.{
   storedWhen,
   storedAs,
 }
+use Rattle.model.specs.Plans.{emptyPlans, planned, plansFit}
 use Rattle.model.specs.Fits.{
   masterFits,
   holdFits,
@@ -143,6 +144,7 @@ unfolding
     bcd clockFits
     acknowledges dumps fileOf flat historyChars freedFor mostOf toldFrom tellOf historyOf recordChars keepsOldest sparedIn fullAs storedWhen storedAs
     masterFits holdFits writeFits coreFits givable replyFits memoryFits fileFits historyFits samplesAt samplesFit areasFit portFits fits
+    emptyPlans planned plansFit
     scanned statusOf sentAs answered settled finished telling stepOf areasLeft areasAnew groupsCarried asksFor anew served framed judged notedIn storeMade localOf makeOf
     markNumber portStatus sentChars markAfter portHeard portAfter short turnedAway shows moves decided resultOf nextOf entryOf afterFrom traceFrom
     chunks carried shownFor shownIn shownBy shown latestAfter releasedBy latestFrom releasedFrom wasKept storedLocally storedBy storedIn

@@ -162,7 +162,7 @@ module _ (c : Config) (i : Inner) (lag : ℕ) (q : Request) where
   unfolding Keeps changed
   reset-keeps k = spared a _ (reset-spares (c .inputs) (a .words) q)
 
-  execute-keeps : (k : Core) (r : Executed) → Keeps (executed k a r)
+  execute-keeps : (k : Core) (r : Executed) → Keeps (executed (c .inputs) k a r)
   unfolding Keeps executed
   execute-keeps k r = record { words = λ g h. refl; changed = refl }
 

@@ -7,6 +7,8 @@ pub mod Exact
 pub mod SampleLaws
 pub mod FrameLaws
 pub mod PairLaws
+pub mod PlanLaws
+pub mod Planned
 pub mod Ages
 pub mod Cases
 pub mod Runs

@@ -125,7 +125,7 @@ module _ (c : Config) (i : Inner) (lag : ℕ) (w : Request) (f : w .function ≡
 
 module _ (c : Config) (i : Inner) (lag : ℕ) (x : Request) (f : x .function ≡ 0x20) (k : x .command ≡ 0x31) where
   abbrev did : Executed → Stepped
-  did r = alone i (executed (i .core) (i .areas) r)
+  did r = alone i (executed (c .inputs) (i .core) (i .areas) r)
 
   abbrev Ends : Stepped → Type 0
   Ends m = PairEnds (m .step .says .outcome)

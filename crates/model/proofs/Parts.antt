@@ -43,7 +43,7 @@ use Rattle.model.proofs.Conditions.{by-cond}
 use Rattle.model.proofs.PairLaws.{by-heard, pair-address}
 use Rattle.model.proofs.Pairs.{by-pair}
 use Rattle.model.proofs.FileLaws.{toldAfter, newTold}
-use Rattle.model.proofs.AreaLaws.{LeavesValues, setWord-long, pulses-long, resetCount-long, ContactsLong, contact-long, anew-long, execute-long}
+use Rattle.model.proofs.AreaLaws.{LeavesValues, Replans, stay, execute-replans, setWord-long, pulses-long, resetCount-long, ContactsLong, contact-long, anew-long, execute-long}
 
 -- ---- a property, part by part
 
@@ -86,7 +86,7 @@ pub record Lasts (c : Config) (p : Parts) : Type 0 where
   pub no-write : p .write NoWrite
   pub write : (w : Pending) (q : Request) → p .request q → p .write w → p .write (writeOf w q .write)
   pub waits-after : (w : Pending) (ms : ℕ) → p .write w → p .write (waitsAfter w ms)
-  pub leaves : (a b : Areas) → LeavesValues a b → p .areas a → p .areas b
+  pub leaves : (a b : Areas) → LeavesValues a b → Replans (c .inputs) a b → p .areas a → p .areas b
   pub valued : (a : Areas) (n : SpecialCalculation) (v : ℕ) → p .event (local (setValue n v)) → valueSettable c (n .0) ≡ true → p .areas a → p .areas (withValues a (set (a .values) (n .0) v))
   pub sampled : (a : Areas) (n : SpecialCalculation) → p .event (local (sample n)) → isMean c (n .0) ≡ true → p .areas a → p .areas (areasSampled c a (n .0))
   pub told : (h : History) (q : Request) → p .request q → hasFile (c .files) (fileOf q) ≡ true → p .history h
@@ -128,7 +128,7 @@ module _ (c : Config) (p : Parts) (l : Lasts c p) where
       record {
         core = h .core;
         areas = by-cond (p .areas) (eqb (answerNumber (m .answer)) 0)
-            (λ e. l .leaves a _ (record { words = anew-long _ gs (a .words); values = refl; fixed = refl; block = refl; changed = anew-long _ gs (a .changed); samples = refl }) (h .areas))
+            (λ e. l .leaves a _ (record { words = anew-long _ gs (a .words); values = refl; fixed = refl; block = refl; changed = anew-long _ gs (a .changed); samples = refl }) (stay refl refl) (h .areas))
             (λ e. h .areas);
         history = h .history;
       }
@@ -147,7 +147,7 @@ module _ (c : Config) (p : Parts) (l : Lasts c p) where
     changed-has q =
         let s : LeavesValues a (withWords a (resetCountOf (c .inputs) (a .words) q .area)) =
         record { words = resetCount-long (c .inputs) (a .words) q; values = refl; fixed = refl; block = refl; changed = refl; samples = refl } in
-        record { core = kh; areas = l .leaves a _ s ah }
+        record { core = kh; areas = l .leaves a _ s (stay refl refl) ah }
 
     timed-has : (lag : ℕ) (q : Request) → StepHas p (timed k a (setTimeOf lag (k .clock) q))
     unfolding timed
@@ -161,14 +161,15 @@ module _ (c : Config) (p : Parts) (l : Lasts c p) where
     unfolding written
     written-has q g = record { core = record { clock = kh .clock; hold = kh .hold; write = l .write (k .write) q g (kh .write) }; areas = ah }
 
-    executed-has : (q : Request) → StepHas p (executed k a (executeOf (k .write) (a .fixed) (a .block) q))
+    executed-has : (q : Request) → StepHas p (executed (c .inputs) k a (executeOf (k .write) (a .fixed) (a .block) q))
     unfolding executed
     executed-has q =
-        let r = executeOf (k .write) (a .fixed) (a .block) q in
         let e = execute-long (a .fixed) (a .block) (k .write) q in
-        let b : Areas = record { words = a .words; values = a .values; fixed = r .fixed; block = r .block; changed = a .changed; samples = a .samples } in
-        let s : LeavesValues a b = record { words = refl; values = refl; fixed = e .fixed; block = e .block; changed = refl; samples = refl } in
-        record { core = record { clock = kh .clock; hold = kh .hold; write = kh .write }; areas = l .leaves a b s ah }
+        record {
+          core = record { clock = kh .clock; hold = kh .hold; write = kh .write };
+          areas =
+              l .leaves a _ (record { words = refl; values = refl; fixed = e .fixed; block = e .block; changed = refl; samples = refl }) (execute-replans (c .inputs) a (k .write) q) ah;
+        }
 
     internal-has : (lag : ℕ) (q : Request) → p .request q → StepHas p (internalOf c k a lag q)
     unfolding internalOf
@@ -310,13 +311,13 @@ module _ (c : Config) (p : Parts) (l : Lasts c p) where
           history = h .history;
         }
 
-    local-has : (o : Outcome) (a : Areas) → LeavesValues (i .areas) a → Makes p (localMade i o a)
+    local-has : (o : Outcome) (a : Areas) → LeavesValues (i .areas) a → Replans (c .inputs) (i .areas) a → Makes p (localMade i o a)
     unfolding Makes localMade quiet
-    local-has o a s = record { core = h .core; areas = l .leaves (i .areas) a s (h .areas); history = h .history }
+    local-has o a s r = record { core = h .core; areas = l .leaves (i .areas) a s r (h .areas); history = h .history }
 
     word-has : (r : Changed) → length (r .area) ≡ length (i .areas .words) → Makes p (wordMade i r)
     unfolding wordMade
-    word-has r e = local-has _ _ (record { words = e; values = refl; fixed = refl; block = refl; changed = refl; samples = refl })
+    word-has r e = local-has _ _ (record { words = e; values = refl; fixed = refl; block = refl; changed = refl; samples = refl }) (stay refl refl)
 
     value-has : (n : SpecialCalculation) (v : ℕ) → p .event (local (setValue n v)) → Makes p (valueMade i (setValueOf c (i .areas .values) (n .0) v))
     unfolding Makes valueMade localMade quiet setValueOf
@@ -332,7 +333,7 @@ module _ (c : Config) (p : Parts) (l : Lasts c p) where
 
     contact-has : (r : Contacted) → ContactsLong (i .areas .words) (i .areas .changed) r → Makes p (contactMade i r)
     unfolding contactMade
-    contact-has r e = local-has _ _ (record { words = e .words; values = refl; fixed = refl; block = refl; changed = e .changed; samples = refl })
+    contact-has r e = local-has _ _ (record { words = e .words; values = refl; fixed = refl; block = refl; changed = e .changed; samples = refl }) (stay refl refl)
 
     store-has : (f : ℕ) (r : Record) (vs : List ℕ) (o : Stored) → storedAs c (i .history) f vs ≡ o → Makes p (storeMade i f (recordChars r vs) o)
     unfolding Makes storeMade notedIn addedBy changedBy applied droppedAfter

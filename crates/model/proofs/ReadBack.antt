@@ -224,7 +224,7 @@ module _ (c : Config) (s : State) (q : Request) (ok : fits c s ≡ true) (formed
   block-fits : length (i .areas .block) ≤ 512
   unfolding areasFit validOf
   block-fits =
-      omega (arith, eqb-true (length (i .areas .block)) (c .block) (and-left (eqb (length (i .areas .block)) (c .block)) _ areas-fit), leb-true (c .block) 512 (and-left (leb (c .block) 512) _ (and-right (leb (c .unit) 0x7FE) _ valid)))
+      omega (arith, eqb-true (length (i .areas .block)) (c .block) (and-left (eqb (length (i .areas .block)) (c .block)) _ (and-left _ _ areas-fit)), leb-true (c .block) 512 (and-left (leb (c .block) 512) _ (and-right (leb (c .unit) 0x7FE) _ valid)))
 
   unit-fits : c .unit ≤ 0x7FE
   unfolding validOf
@@ -251,7 +251,7 @@ module _ (c : Config) (s : State) (q : Request) (ok : fits c s ≡ true) (formed
   kind-answer lag b (history e l n) = rw (b, eq-eqb (q .function) 0x04 e) (history-answer c valid q e (i .history) (fitting-history c s ok) recorded master-fits l n)
   kind-answer lag b (tables e l n) =
       rw (b, unlike q 0x04 (λ k. omega arith), unlike q 0x20 (λ k. omega arith), unlike q 0x00 (λ k. omega arith), unlike q 0x03 (λ k. omega arith), eq-eqb (q .function) 0x0A e)
-      (tables-answer (c .inputs) (i .areas .words) q e (i .areas .fixed) l n)
+      (tables-answer (i .areas .words) q e (i .areas .plans) (i .areas .fixed) l n)
   kind-answer lag b (control e h) =
       rw (
         b,

@@ -1,11 +1,11 @@
 -- What each function leaves where it refuses. Assumes nothing.
-use Prim.Native.Nat.{ℕ, _+_, _≤_}
+use Prim.Native.Nat.{ℕ, _%_, _≤_}
 use native.Mathlib.Omega.{arith}
 use mathlib.Core.Path.{_≡_, refl, sym, ap, _∙_}
 use mathlib.Core.List.{List}
 use mathlib.Core.Bool.{Bool, true, false, not, _&&_, _||_, true≢false}
 use lib.ListN.{length, getD}
-use lib.Dec.{eqb, leb, ltb}
+use lib.Dec.{eqb, leb}
 use borrow.Author.Tests.{not-true, leb-true, ne-eqb}
 use Rattle.chars.specs.Word.{wordAt}
 use Rattle.chars.specs.Gather.{gather, upFrom}
@@ -16,7 +16,8 @@ use Rattle.model.specs.Config.{Config, has, within}
 use Rattle.model.specs.State.{Areas}
 use Rattle.model.specs.Scan.{Scan, refuses, counts, withNoData}
 use Rattle.model.specs.Inputs.{Changed, hasAccumulator, unreserved, inputsOf, resetCountOf}
-use Rattle.model.specs.Tables.{sendable, sendOf, tableScan, tablesOf}
+use Rattle.model.specs.Tables.{tableAsked}
+use Rattle.model.specs.Plans.{plannedScan, plannedOf}
 use Rattle.model.specs.Calculations.{fitting, valueOf, allOf, pairOf, missingOf, askedOf, calculationsOf}
 use Rattle.model.specs.Means.{equippedNow}
 use Rattle.model.specs.Control.{Controlled, isOf, takes, selectWhen, operateWhen, resetWhen, selectOf, controlOf}
@@ -33,7 +34,6 @@ use Rattle.model.specs.declared.Hold.the-variants.{Free, Held, TimedOut}
 use Rattle.model.specs.declared.Pending.{Pending}
 use Rattle.model.specs.declared.Pending.the-variants.{NoWrite, Waits}
 use Rattle.model.specs.declared.Core.{Core}
-use Rattle.model.specs.declared.Table.{Table}
 use Rattle.model.proofs.Conditions.{by-cond, and-left, and-right, or-left}
 
 -- ---- a function that does what it is asked, or nothing
@@ -97,17 +97,13 @@ module _ (k : Core) (a : Areas) where
       (λ e. by-cond scan (within 1 mostAsked (length (q .body))) (λ e. asked-plain table values (q .body)) (λ e. leaves refl refl))
       (λ e. leaves refl refl))
 
-  send-plain : (table area words : List ℕ) (one two own : Table) → Plain k a (scanned k a) (sendOf table area words one two own)
-  unfolding sendOf scanned
-  send-plain table area words one two own =
-      by-cond scan (sendable table area own && (sendable table area one && sendable table area two))
-      (λ e. by-cond scan (ltb 255 (one .quantity + two .quantity + own .quantity)) (λ e. leaves refl refl) (λ e. does refl))
+  tables-plain : (plans fixed words : List ℕ) (q : Request) → Plain k a (scanned k a) (plannedOf plans fixed words q)
+  unfolding plannedOf tableAsked plannedScan scanned
+  tables-plain plans fixed words q =
+      by-cond scan (within 0x41 0x4F (q .command))
+      (λ e. no-data-plain q _ (by-cond scan (eqb (getD plans (q .command % 16) 0) 0) (λ e. does refl)
+      (λ e. by-cond (λ (o : Outcome). Plain k a (scanned k a) (refuses o)) (eqb (getD plans (q .command % 16) 0) 9) (λ e. leaves refl refl) (λ e. leaves refl refl))))
       (λ e. leaves refl refl)
-
-  tables-plain : (table fixed words : List ℕ) (q : Request) → Plain k a (scanned k a) (tablesOf table fixed words q)
-  unfolding tablesOf tableScan scanned
-  tables-plain table fixed words q =
-      by-cond scan (within 0x41 0x4F (q .command)) (λ e. no-data-plain q _ (send-plain _ _ _ _ _ _)) (λ e. leaves refl refl)
 
   read-plain : (fixed block : List ℕ) (q : Request) → Plain k a (scanned k a) (readOf fixed block q)
   unfolding readOf returned scanned
@@ -132,19 +128,19 @@ module _ (k : Core) (a : Areas) where
       let P : Timed → Type 0 = Plain k a (timed k a) in
       by-cond P (counts 7 q) (λ e. by-cond P (timeFits (q .body) && leb lag mostLag) (λ e. does refl) (λ e. leaves refl refl)) (λ e. leaves refl refl)
 
-  executes-plain : (o bias : ℕ) (ys : List ℕ) → Plain k a (executed k a) (executes (a .fixed) (a .block) o bias ys)
+  executes-plain : (table : List ℕ) (o bias : ℕ) (ys : List ℕ) → Plain k a (executed table k a) (executes (a .fixed) (a .block) o bias ys)
   unfolding executes notExecuted executed
-  executes-plain o bias ys = by-cond (Plain k a (executed k a)) (reaches (a .fixed) (a .block) o bias (length ys)) (λ e. does refl) (λ e. leaves refl refl)
+  executes-plain table o bias ys = by-cond (Plain k a (executed table k a)) (reaches (a .fixed) (a .block) o bias (length ys)) (λ e. does refl) (λ e. leaves refl refl)
 
-  execute-when-plain : (p : Pending) (q : Request) → Plain k a (executed k a) (executeWhen p (a .fixed) (a .block) q)
+  execute-when-plain : (table : List ℕ) (p : Pending) (q : Request) → Plain k a (executed table k a) (executeWhen p (a .fixed) (a .block) q)
   unfolding executeWhen notExecuted executed
-  execute-when-plain NoWrite q = leaves refl refl
-  execute-when-plain (Waits w) q =
-      by-cond (Plain k a (executed k a)) (isOf (w .master) (masterOf (q .address))) (λ e. executes-plain (w .ordinal .0) (w .bias) (q .body)) (λ e. leaves refl refl)
+  execute-when-plain table NoWrite q = leaves refl refl
+  execute-when-plain table (Waits w) q =
+      by-cond (Plain k a (executed table k a)) (isOf (w .master) (masterOf (q .address))) (λ e. executes-plain table (w .ordinal .0) (w .bias) (q .body)) (λ e. leaves refl refl)
 
-  execute-plain : (p : Pending) (q : Request) → Plain k a (executed k a) (executeOf p (a .fixed) (a .block) q)
+  execute-plain : (table : List ℕ) (p : Pending) (q : Request) → Plain k a (executed table k a) (executeOf p (a .fixed) (a .block) q)
   unfolding executeOf notExecuted executed
-  execute-plain p q = by-cond (Plain k a (executed k a)) (within 1 mostAsked (length (q .body))) (λ e. execute-when-plain p q) (λ e. leaves refl refl)
+  execute-plain table p q = by-cond (Plain k a (executed table k a)) (within 1 mostAsked (length (q .body))) (λ e. execute-when-plain table p q) (λ e. leaves refl refl)
 
 -- ---- any function
 
@@ -258,7 +254,7 @@ module _ (k : Core) (a : Areas) where
       let P : Step → Type 0 = Kept k a itself in
       by-cond P (eqb (q .command) 0x11) (λ e. kept-step (plain-kept (reset-count-plain k a (c .inputs) q)))
       (λ e. by-cond P (eqb (q .command) 0x30) (λ e. kept-step (write-kept (k .write) q))
-      (λ e. by-cond P (eqb (q .command) 0x31) (λ e. kept-step (plain-kept (execute-plain k a (k .write) q)))
+      (λ e. by-cond P (eqb (q .command) 0x31) (λ e. kept-step (plain-kept (execute-plain k a (c .inputs) (k .write) q)))
       (λ e. by-cond P (eqb (q .command) 0x38) (λ e. kept-step (plain-kept (set-time-plain k a lag q)))
       (λ e. unknown-kept))))
 
@@ -276,7 +272,7 @@ module _ (k : Core) (a : Areas) where
       let P : Step → Type 0 = Kept k a itself in
       by-cond P (eqb (q .function) 0x00) (λ e. kept-step (plain-kept (inputs-plain k a (c .inputs) (a .words) q)))
       (λ e. by-cond P (eqb (q .function) 0x03) (λ e. kept-step (plain-kept (calculations-plain k a (equippedNow c (a .samples)) (a .values) q)))
-      (λ e. by-cond P (eqb (q .function) 0x0A) (λ e. kept-step (plain-kept (tables-plain k a (c .inputs) (a .fixed) (a .words) q)))
+      (λ e. by-cond P (eqb (q .function) 0x0A) (λ e. kept-step (plain-kept (tables-plain k a (a .plans) (a .fixed) (a .words) q)))
       (λ e. by-cond P (eqb (q .function) 0x10) (λ e. kept-step (control-kept (c .outputs) (k .hold) q))
       (λ e. by-cond P (eqb (q .function) 0x28) (λ e. return-kept q)
       (λ e. unknown-kept)))))

@@ -187,7 +187,7 @@ leaving-lasts c a =
       no-write = tt;
       write = λ w q g k. tt;
       waits-after = λ w ms k. tt;
-      leaves = λ x y s h. record { values = s .values ∙ h .values; samples = s .samples ∙ h .samples };
+      leaves = λ x y s r h. record { values = s .values ∙ h .values; samples = s .samples ∙ h .samples };
       valued = λ x n v g e h. absurd g;
       sampled = λ x n g e h. absurd g;
       told = λ h q g e k. tt;

@@ -165,7 +165,7 @@ forming-lasts c =
       no-write = tt;
       write = λ w q g k. tt;
       waits-after = λ w ms k. tt;
-      leaves = λ a b s h. record { words = s .words ∙ h .words; values = ap length (s .values) ∙ h .values; fixed = s .fixed ∙ h .fixed; changed = s .changed ∙ h .changed; samples = ap length (s .samples) ∙ h .samples };
+      leaves = λ a b s r h. record { words = s .words ∙ h .words; values = ap length (s .values) ∙ h .values; fixed = s .fixed ∙ h .fixed; changed = s .changed ∙ h .changed; samples = ap length (s .samples) ∙ h .samples };
       valued = λ a n v g e h. record { words = h .words; values = length-set (a .values) (n .0) v ∙ h .values; fixed = h .fixed; changed = h .changed; samples = h .samples };
       sampled = λ a n g e h. sampled-formed c a (n .0) h;
       told = λ h q g e k. told-formed c h q k;

@@ -3,13 +3,12 @@ use Prim.Native.Nat.{ℕ, _+_, _*_, _/_, _%_, _≤_}
 use mathlib.Core.Path.{_≡_, refl, sym, ap, _∙_}
 use mathlib.Core.Logic.{inr}
 use mathlib.Core.List.{List, [], _++_}
-use mathlib.Core.Bool.{Bool, true, cond, _&&_}
+use mathlib.Core.Bool.{Bool, true, cond}
 use lib.ListN.{length, getD, length-append}
-use lib.Dec.{eqb, ltb}
+use lib.Dec.{eqb}
 use native.Mathlib.Omega.{arith}
-use borrow.Author.Tests.{ltb-false, eq-eqb, le-leb}
+use borrow.Author.Tests.{eq-eqb, le-leb}
 use Rattle.chars.specs.Gather.{gather}
-use Rattle.chars.proofs.PutLaws.{part-most}
 use Rattle.chars.proofs.WordLaws.{length-word}
 use Rattle.chars.proofs.GatherLaws.{gather-most, gather-each, length-up}
 use Rattle.model.specs.Frame.{Request}
@@ -17,14 +16,15 @@ use Rattle.model.specs.Outcome.{sendingOf}
 use Rattle.model.specs.Config.{has, within, twoBits, simples, accumulators, analogs}
 use Rattle.model.specs.Scan.{Scan, tells, refuses, counts, withNoData}
 use Rattle.model.specs.Inputs.{unreserved, chosen, wordOf, inputsOf}
-use Rattle.model.specs.Tables.{tableNumbers, sendable, wordIn, sendOf, tableScan, tableArea, tablesOf}
+use Rattle.model.specs.Tables.{wordIn, tableArea, tableAsked}
+use Rattle.model.specs.Plans.{plannedScan, plannedOf}
 use Rattle.model.specs.Believe.{empty, filledBy}
 use Rattle.model.specs.declared.Outcome.{Outcome}
 use Rattle.model.specs.declared.Outcome.the-variants.{Done, NotValid, TooLong}
 use Rattle.model.specs.declared.Sending.the-variants.{Nop}
-use Rattle.model.specs.declared.Table.{Table}
 use Rattle.model.proofs.Conditions.{by-cond, and-both}
 use Rattle.model.proofs.LowFirst.{inputs-low-first}
+use Rattle.model.proofs.PlanLaws.{numbers-most}
 use Rattle.model.proofs.Telling.{Answers, told, declined, tell-inputs, tell-tables, refuse-plain}
 
 filled : (ys : List ℕ) → length ys % 2 ≡ 0 → length ys ≤ 511 → filledBy 2 ys ≡ true
@@ -81,7 +81,7 @@ module _ (table xs : List ℕ) (q : Request) where
 
 -- ---- function 0Ah
 
-module _ (table xs : List ℕ) (q : Request) (e : q .function ≡ 0x0A) where
+module _ (xs : List ℕ) (q : Request) (e : q .function ≡ 0x0A) where
   plain-refused : (o : Outcome) → sendingOf o ≡ Nop → Answers q (refuses o)
   plain-refused o s = declined q [] o s (omega arith) (refuse-plain q [] (inr e) ∙ (unfold empty in refl))
 
@@ -96,20 +96,11 @@ module _ (table xs : List ℕ) (q : Request) (e : q .function ≡ 0x0A) where
       let k : length ys ≡ 2 * length ns = gather-each (wordIn xs) 2 word-two ns in
       told q ys (omega arith) (tell-tables q ys e ∙ filled ys (omega arith) (omega arith))
 
-  numbers-most : (area : List ℕ) (one two own : Table) → one .quantity + two .quantity + own .quantity ≤ 255
-      → length (tableNumbers area one ++ (tableNumbers area two ++ tableNumbers area own)) ≤ 255
-  numbers-most area one two own l =
-      rw (length-append, length-append)
-      (omega (arith, part-most area (one .start) (one .quantity), part-most area (two .start) (two .quantity), part-most area (own .start) (own .quantity)))
-
-  send-answer : (area : List ℕ) (one two own : Table) → Answers q (sendOf table area xs one two own)
-  unfolding sendOf
-  send-answer area one two own =
-      by-cond (Answers q) (sendable table area own && (sendable table area one && sendable table area two))
-      (λ k. by-cond (Answers q) (ltb 255 (one .quantity + two .quantity + own .quantity)) (λ k. plain-refused TooLong refl)
-      (λ k. words-told _ (numbers-most area one two own (ltb-false 255 (one .quantity + two .quantity + own .quantity) k))))
-      (λ k. plain-refused NotValid refl)
-
-  pub tables-answer : (fixed : List ℕ) → within 0x41 0x4F (q .command) ≡ true → counts 0 q ≡ true → Answers q (tablesOf table fixed xs q)
-  unfolding tablesOf withNoData tableScan
-  tables-answer fixed l n = rw (l, n) (send-answer (tableArea fixed) _ _ _)
+  -- by whatever plan
+  pub tables-answer : (plans fixed : List ℕ) → within 0x41 0x4F (q .command) ≡ true → counts 0 q ≡ true → Answers q (plannedOf plans fixed xs q)
+  unfolding plannedOf tableAsked withNoData plannedScan
+  tables-answer plans fixed l n =
+      let k = q .command % 16 in
+      rw (l, n)
+      (by-cond (Answers q) (eqb (getD plans k 0) 0) (λ e. words-told _ (numbers-most plans (tableArea fixed) k))
+      (λ e. by-cond (λ (o : Outcome). Answers q (refuses o)) (eqb (getD plans k 0) 9) (λ e. plain-refused TooLong refl) (λ e. plain-refused NotValid refl)))

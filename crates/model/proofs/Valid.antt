@@ -2,7 +2,7 @@
 use Prim.Native.Nat.{ℕ}
 use mathlib.Core.Path.{_≡_, refl}
 use mathlib.Core.List.{List, [], _∷_}
-use mathlib.Core.Bool.{true}
+use mathlib.Core.Bool.{Bool, true, _&&_}
 use lib.ListN.{length, length-replicate}
 use lib.Dec.{eqb}
 use native.Mathlib.Omega.{arith}
@@ -13,8 +13,11 @@ use Rattle.model.specs.Config.{Config, validOf, within, placeOf}
 use Rattle.model.specs.State.{Areas, State, freshCore, freshAreas, freshHistory, freshPort, freshOf}
 use Rattle.model.specs.Means.{areasSampled}
 use Rattle.model.specs.Clock.{clockFits}
+use Rattle.chars.specs.Put.{part}
+use Rattle.chars.specs.Gather.{upFrom, every}
+use Rattle.model.specs.Plans.{emptyPlans, planned, plansFit}
 use Rattle.model.specs.History.{recordChars, sparedIn}
-use Rattle.model.specs.Fits.{masterFits, holdFits, writeFits, coreFits, memoryFits, fileFits, historyFits, areasFit, portFits, fits}
+use Rattle.model.specs.Fits.{masterFits, holdFits, writeFits, coreFits, memoryFits, fileFits, historyFits, areasFit, portFits, fits, samplesFit}
 use Rattle.model.specs.Event.{Event, stretch, elapsed, local}
 use Rattle.model.specs.Step.{makeOf}
 use Rattle.model.specs.Port.{silentAfter, portHeard, portAfter}
@@ -27,7 +30,8 @@ use Rattle.model.specs.declared.Core.{Core}
 use Rattle.model.specs.declared.Port.{Port}
 use Rattle.model.proofs.Conditions.{and-left, and-right, and-both, every-upFrom, upFrom-every}
 use Rattle.model.proofs.FileLaws.{held-none, stored-kept, stored-swapped}
-use Rattle.model.proofs.AreaLaws.{LeavesValues}
+use Rattle.model.proofs.AreaLaws.{LeavesValues, Replans, stay, made}
+use Rattle.model.proofs.PlanLaws.{plans-fit}
 use Rattle.model.proofs.SampleLaws.{taken-fits, none-fits}
 use Rattle.model.proofs.PartFits.{heard-fits, setTime-fits, clockAfter-fits, control-fits, heldAfter-fits, write-fits, waitsAfter-fits, FilesFit, history-fits, told-fits, forgotten-fits, kept-fits, swapped-fits}
 use Rattle.model.proofs.Parts.{Parts, CoreHas, InnerHas, Lasts, make-has}
@@ -62,16 +66,26 @@ fitting c =
       event = Given;
     }
 
-leaves-fit : (c : Config) (a b : Areas) → LeavesValues a b → areasFit c a ≡ true → areasFit c b ≡ true
+plans-left : (table : List ℕ) (a b : Areas) → Replans table a b → plansFit (a .plans) ≡ true → plansFit (b .plans) ≡ true
+plans-left table a b (stay e t) h = rw e h
+plans-left table a b (made e) h = rw e (plans-fit table _)
+
+leaves-fit : (c : Config) (a b : Areas) → LeavesValues a b → Replans (c .inputs) a b → areasFit c a ≡ true → areasFit c b ≡ true
 unfolding areasFit
-leaves-fit c a b s e = rw (s .block, s .samples) e
+leaves-fit c a b s r e =
+    let rest : Areas → Bool = λ x. eqb (length (x .block)) (c .block) && every (samplesFit c (x .samples)) (upFrom 0 mostMeans) in
+    and-both {a = rest b} (rw (s .block, s .samples) (and-left (rest a) _ e)) (plans-left (c .inputs) a b r (and-right (rest a) _ e))
 
 -- a sample adds one, or takes the place of the oldest
 sampled-fit : (c : Config) (a : Areas) (n : ℕ) → areasFit c a ≡ true → areasFit c (areasSampled c a n) ≡ true
 unfolding areasFit areasSampled
 sampled-fit c a n e =
-    and-both (and-left (eqb (length (a .block)) (c .block)) _ e)
-    (upFrom-every _ 0 mostMeans (λ p low high. taken-fits c a (placeOf c n) p (every-upFrom _ 0 mostMeans (and-right (eqb (length (a .block)) (c .block)) _ e) p low high)))
+    let lent = eqb (length (a .block)) (c .block) in
+    let many = every (samplesFit c (a .samples)) (upFrom 0 mostMeans) in
+    let both = and-left (lent && many) _ e in
+    and-both (and-both (and-left lent many both)
+    (upFrom-every _ 0 mostMeans (λ p low high. taken-fits c a (placeOf c n) p (every-upFrom _ 0 mostMeans (and-right lent many both) p low high))))
+    (and-right (lent && many) _ e)
 
 fitting-lasts : (c : Config) → Lasts c (fitting c)
 unfolding holdFits writeFits areasFit
@@ -136,11 +150,11 @@ unfolding freshHistory FilesFit fileFits
 fresh-files c f h = rw (held-none 32 f) (omega (arith, le-leb))
 
 fresh-inner : (c : Config) → InnerHas (fitting c) (freshOf c .inner)
-unfolding freshOf freshCore freshAreas freshHistory clockFits within holdFits writeFits areasFit memoryFits
+unfolding freshOf freshCore freshAreas freshHistory clockFits within holdFits writeFits areasFit memoryFits emptyPlans planned plansFit part every
 fresh-inner c =
     record {
       core = record { clock = refl; hold = refl; write = refl };
-      areas = and-both (eq-eqb _ _ (length-replicate (c .block) 0)) (upFrom-every _ 0 mostMeans (λ p low high. none-fits c p));
+      areas = and-both (and-both (eq-eqb _ _ (length-replicate {A = ℕ} (c .block) 0)) (upFrom-every _ 0 mostMeans (λ p low high. none-fits c p))) refl;
       history = history-fits c _ _ _ (fresh-files c) refl;
     }
 

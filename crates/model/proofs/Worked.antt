@@ -26,6 +26,7 @@ use Rattle.model.specs.Control.{isOf, breaks, heldAfter}
 use Rattle.model.specs.Blocks.{dropped, waitsAfter}
 use Rattle.model.specs.Clock.{bcd, clockFits, timeOf, clockAt, clockAfter}
 use Rattle.model.specs.History.{acknowledges, dumps, fileOf, flat, historyChars, freedFor, mostOf, toldFrom, agrees, againWhen, tellOf, historyOf, recordChars, sparedIn, fullAs, storedWhen, storedAs}
+use Rattle.model.specs.Plans.{emptyPlans, planned, plansFit}
 use Rattle.model.specs.Fits.{masterFits, holdFits, writeFits, coreFits, givable, replyFits, memoryFits, fileFits, historyFits, samplesFit, areasFit, portFits, fits}
 use Rattle.model.specs.Event.{store, Event, elapsed, local}
 use Rattle.model.specs.Bench.{withRoom, hears}
@@ -110,6 +111,7 @@ unfolding
     bcd clockFits timeOf clockAt clockAfter
     acknowledges dumps fileOf flat historyChars freedFor mostOf toldFrom agrees againWhen tellOf historyOf recordChars keepsOldest sparedIn fullAs storedWhen storedAs
     masterFits holdFits writeFits coreFits givable replyFits memoryFits fileFits historyFits samplesAt samplesFit areasFit portFits fits
+    emptyPlans planned plansFit
     scanned statusOf sentAs answered quiet settled finished telling stepOf areasLeft areasAnew groupsCarried asksFor anew served framed judged coreAfter elapsedMade notedIn storeMade localOf makeOf
     markNumber portStatus sentChars markAfter silentAfter portHeard portAfter short turnedAway shows moves decided resultOf nextOf entryOf afterFrom traceFrom
     chunks carried shownFor shownIn shownBy shown latestAfter releasedBy latestFrom releasedFrom wasKept storedLocally storedBy storedIn

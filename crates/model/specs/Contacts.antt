@@ -42,7 +42,7 @@ pub record Contacted : Type 0 where
   pub changed : List ℕ
 
 abbrev pub withContacts : Areas → List ℕ → List ℕ → Areas
-withContacts a words changed = record { words = words; values = a .values; fixed = a .fixed; block = a .block; changed = changed; samples = a .samples }
+withContacts a words changed = record { words = words; values = a .values; fixed = a .fixed; block = a .block; changed = changed; samples = a .samples; plans = a .plans }
 
 -- contact n is at place n % 8 of group n / 8; a group that is not equipped and a state that is none are refused (Request 8.2, 8.6)
 unfoldable pub contactOf : List ℕ → List ℕ → List ℕ → ℕ → ℕ → Contacted

@@ -10,6 +10,7 @@ use Rattle.model.specs.Config.{Config, validOf, has, hasFile, windowAt}
 use Rattle.model.specs.State.{Areas, Files, History, Inner, State, heldIn}
 use Rattle.model.specs.Means.{samplesAt}
 use Rattle.model.specs.Clock.{clockFits}
+use Rattle.model.specs.Plans.{plansFit}
 use Rattle.model.specs.History.{mostOf}
 use Rattle.model.specs.declared.Master.{Master}
 use Rattle.model.specs.declared.Hold.{Hold}
@@ -63,9 +64,9 @@ historyFits c h = every (fileFits c (h .files)) (upFrom 0 32) && memoryFits c (h
 unfoldable pub samplesFit : Config → List (List ℕ) → ℕ → Bool
 samplesFit c ss p = leb (length (samplesAt ss p)) (windowAt c p)
 
--- the parameter block is lent as long as it was configured (Outcomes 5)
+-- the parameter block is lent as long as it was configured, and each plan is one (Outcomes 5; Request 12.3)
 unfoldable pub areasFit : Config → Areas → Bool
-areasFit c a = eqb (length (a .block)) (c .block) && every (samplesFit c (a .samples)) (upFrom 0 mostMeans)
+areasFit c a = eqb (length (a .block)) (c .block) && every (samplesFit c (a .samples)) (upFrom 0 mostMeans) && plansFit (a .plans)
 
 unfoldable pub portFits : Port → Bool
 portFits p = leb (p .silence) silenceLimit

@@ -9,6 +9,7 @@ pub mod Change
 pub mod Scan
 pub mod Inputs
 pub mod Tables
+pub mod Plans
 pub mod Contacts
 pub mod Means
 pub mod Calculations
@@ -21,6 +22,7 @@ pub mod Event
 pub mod Step
 pub mod Port
 pub mod Run
+pub mod Planned
 pub mod Laws
 pub mod Bench
 pub mod Formed

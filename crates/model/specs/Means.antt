@@ -85,6 +85,7 @@ areasSampled c a n =
       block = a .block;
       changed = a .changed;
       samples = set (a .samples) (placeOf c n) (takenAt c a (placeOf c n));
+      plans = a .plans;
     }
 
 -- ---- what an exact mean is

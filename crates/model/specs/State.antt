@@ -5,6 +5,7 @@ use mathlib.Core.Bool.{true, false}
 use lib.ListN.{getD, set, take, drop, replicate}
 use Rattle.model.specs.Limits.{mostMeans}
 use Rattle.model.specs.Config.{Config}
+use Rattle.model.specs.Plans.{emptyPlans}
 use Rattle.model.specs.declared.Core.{Core}
 use Rattle.model.specs.declared.Hold.the-variants.{Free}
 use Rattle.model.specs.declared.Pending.the-variants.{NoWrite}
@@ -14,8 +15,8 @@ use Rattle.model.specs.declared.Mark.the-variants.{Fine}
 use Rattle.model.specs.declared.Port.{Port}
 
 -- 256 words of inputs, 128 calculation values, the fixed area of 528 characters, the parameter block; for each of the 32 groups of contacts
--- a bit each that changed since the group's last reply, and for each place of a mean the samples that are in, oldest first (Scans 2, 18;
--- Write 1; Request 4.3, 4.4, 8.1)
+-- a bit each that changed since the group's last reply, for each place of a mean the samples that are in, oldest first, and the scan plans
+-- (Scans 2, 18; Write 1; Request 4.3, 4.4, 8.1, 12.2)
 pub record Areas : Type 0 where
   pub words : List ℕ
   pub values : List ℕ
@@ -23,6 +24,7 @@ pub record Areas : Type 0 where
   pub block : List ℕ
   pub changed : List ℕ
   pub samples : List (List ℕ)
+  pub plans : List ℕ
 
 -- for each file its records, oldest first (History 4)
 abbrev pub Files : Type 0
@@ -68,6 +70,7 @@ freshCore =
       broadcast = false;
     }
 
+-- with the plans of its empty tables (Request 12.5)
 unfoldable pub freshAreas : Config → Areas
 freshAreas c =
     record {
@@ -77,6 +80,7 @@ freshAreas c =
       block = replicate (c .block) 0;
       changed = replicate 32 0;
       samples = replicate mostMeans [];
+      plans = emptyPlans;
     }
 
 unfoldable pub freshHistory : History

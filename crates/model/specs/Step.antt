@@ -13,7 +13,8 @@ use Rattle.model.specs.State.{Areas, Inner}
 use Rattle.model.specs.Change.{Change, stays, takes, addedBy, changedBy}
 use Rattle.model.specs.Scan.{Scan, tells, refuses, counts}
 use Rattle.model.specs.Inputs.{Changed, inputsOf, setWordOf, pulsesOf, resetCountOf}
-use Rattle.model.specs.Tables.{tablesOf}
+use Rattle.model.specs.Tables.{tableArea}
+use Rattle.model.specs.Plans.{plansOf, plannedOf}
 use Rattle.model.specs.Contacts.{Contacted, withContacts, contactOf, groupsCarried, areasAnew}
 use Rattle.model.specs.Means.{equippedNow, takenAt, sampledFor, areasSampled}
 use Rattle.model.specs.Calculations.{calculationsOf, setValueOf}
@@ -81,10 +82,10 @@ abbrev pub withBroadcast : Core → Bool → Core
 withBroadcast k b = record { clock = k .clock; hold = k .hold; write = k .write; configure = k .configure; error = k .error; broadcast = b }
 
 abbrev pub withWords : Areas → List ℕ → Areas
-withWords a words = record { words = words; values = a .values; fixed = a .fixed; block = a .block; changed = a .changed; samples = a .samples }
+withWords a words = record { words = words; values = a .values; fixed = a .fixed; block = a .block; changed = a .changed; samples = a .samples; plans = a .plans }
 
 abbrev pub withValues : Areas → List ℕ → Areas
-withValues a values = record { words = a .words; values = values; fixed = a .fixed; block = a .block; changed = a .changed; samples = a .samples }
+withValues a values = record { words = a .words; values = values; fixed = a .fixed; block = a .block; changed = a .changed; samples = a .samples; plans = a .plans }
 
 unfoldable pub scanned : Core → Areas → Scan → Step
 scanned k a r = record { says = r; action = Rest; core = k; areas = a }
@@ -101,14 +102,22 @@ timed k a r = record { says = r .says; action = Rest; core = withClock k (r .clo
 unfoldable pub written : Core → Areas → WriteResult → Step
 written k a r = record { says = r .says; action = Rest; core = withWrite k (r .write); areas = a }
 
--- an accepted EXECUTE clears bit 7 or bit 3 (Frames 10)
-unfoldable pub executed : Core → Areas → Executed → Step
-executed k a r =
+-- an accepted EXECUTE clears bit 7 or bit 3; one into ordinal 03 makes every plan anew (Frames 10; Request 12.2)
+unfoldable pub executed : List ℕ → Core → Areas → Executed → Step
+executed table k a r =
     record {
       says = r .says;
       action = Rest;
       core = withError (withConfigure k (cond (r .configures) false (k .configure))) (cond (r .clears) false (k .error));
-      areas = record { words = a .words; values = a .values; fixed = r .fixed; block = r .block; changed = a .changed; samples = a .samples };
+      areas = record {
+        words = a .words;
+        values = a .values;
+        fixed = r .fixed;
+        block = r .block;
+        changed = a .changed;
+        samples = a .samples;
+        plans = cond (r .configures) (plansOf table (tableArea (r .fixed))) (a .plans);
+      };
     }
 
 -- ---- the functions that see no history (Covers 1)
@@ -118,7 +127,7 @@ unfoldable pub internalOf : Config → Core → Areas → ℕ → Request → St
 internalOf c k a lag q =
     cond (eqb (q .command) 0x11) (changed k a (resetCountOf (c .inputs) (a .words) q))
     (cond (eqb (q .command) 0x30) (written k a (writeOf (k .write) q))
-    (cond (eqb (q .command) 0x31) (executed k a (executeOf (k .write) (a .fixed) (a .block) q))
+    (cond (eqb (q .command) 0x31) (executed (c .inputs) k a (executeOf (k .write) (a .fixed) (a .block) q))
     (cond (eqb (q .command) 0x38) (timed k a (setTimeOf lag (k .clock) q))
     (scanned k a (refuses Unknown)))))
 
@@ -134,7 +143,7 @@ unfoldable pub otherOf : Config → Core → Areas → Request → Step
 otherOf c k a q =
     cond (eqb (q .function) 0x00) (scanned k a (inputsOf (c .inputs) (a .words) q))
     (cond (eqb (q .function) 0x03) (scanned k a (calculationsOf (equippedNow c (a .samples)) (a .values) q))
-    (cond (eqb (q .function) 0x0A) (scanned k a (tablesOf (c .inputs) (a .fixed) (a .words) q))
+    (cond (eqb (q .function) 0x0A) (scanned k a (plannedOf (a .plans) (a .fixed) (a .words) q))
     (cond (eqb (q .function) 0x10) (controlled k a (controlOf (c .outputs) (k .hold) q))
     (cond (eqb (q .function) 0x28) (returnOf k a q)
     (scanned k a (refuses Unknown))))))

@@ -76,9 +76,10 @@ tableScan table area words k =
 unfoldable pub tableArea : List ℕ → List ℕ
 tableArea fixed = part fixed 16 256
 
--- function 0Ah, commands 41h to 4Fh (Scans 9, 10)
+-- function 0Ah, commands 41h to 4Fh, by whichever scan of a table (Scans 9, 10)
+unfoldable pub tableAsked : (ℕ → Scan) → Request → Scan
+tableAsked scan q = cond (within 0x41 0x4F (q .command)) (withNoData q (scan (q .command % 16))) (refuses Unknown)
+
+-- by the plain reading of the tables
 unfoldable pub tablesOf : List ℕ → List ℕ → List ℕ → Request → Scan
-tablesOf table fixed words q =
-    cond (within 0x41 0x4F (q .command))
-    (withNoData q (tableScan table (tableArea fixed) words (q .command % 16)))
-    (refuses Unknown)
+tablesOf table fixed words q = tableAsked (tableScan table (tableArea fixed) words) q

@@ -2,7 +2,7 @@
 use mathlib.Core.Path.{_≡_, refl, sym, ap, _∙_}
 use Prim.Native.Nat.{ℕ}
 use mathlib.Core.List.{List, []}
-use mathlib.Core.Bool.{false, cond}
+use mathlib.Core.Bool.{Bool, true, false, cond}
 use lib.ListN.{length, getD}
 use lib.Dec.{eqb}
 use borrow.Author.Tests.{ne-eqb}
@@ -17,6 +17,8 @@ use Rattle.model.specs.Change.{stays}
 use Rattle.model.specs.Scan.{Scan, refuses, Fills, counts}
 use Rattle.model.specs.Inputs as points
 use Rattle.model.specs.Blocks as blocks
+use Rattle.model.specs.Tables.{tableArea}
+use Rattle.model.specs.Plans.{plansOf}
 use Rattle.model.specs.Clock.{Timed, setTimeOf, readTimeOf}
 use Rattle.model.specs.Step.{
   withClock,
@@ -44,11 +46,13 @@ use Rattle.model.specs.declared.Filled.{Filled}
 use Rattle.model.specs.declared.Core.{Core}
 use Rattle.model.specs.declared.Memory.the-variants.{Nothing}
 use Rattle.model.proofs.Conditions.{by-bool}
+use Rattle.model.proofs.PlanLaws.{plans-long}
 use Rattle.points.proofs.MeansLaws.{sets-long, reset-sets, reset-count-means}
 use Rattle.blocks.specs.Answers.{WritesAs, ExecutesAs}
 use Rattle.blocks.specs.declared.Written.{Written}
 use Rattle.blocks.specs.declared.Executed.{Executed}
-use Rattle.layout.specs.Unit.{Unit, NumbersOnly, numbersIn, unitLong, unitIn, configIn, setWords, setFixed, putWord}
+use Rattle.layout.specs.Unit.{Unit, NumbersOnly, numbersIn, unitLong, plansRegion, unitIn, configIn, setWords, setFixed, setPlans, putWord, putPlans}
+use Rattle.layout.proofs.UnitLaws.{plans-written, length-put-in}
 use Rattle.layout.specs.Kept.{areasBy, areasIn}
 use Rattle.model.specs.declared.Port.{Port}
 use Rattle.layout.specs.Numbers.{Written as Kept}
@@ -56,6 +60,12 @@ use Rattle.serve.specs.declared.step.Step.{Step}
 use Rattle.serve.specs.Promises.{Tame, StepPromise, Unshifted}
 use Rattle.serve.proofs.KeptLaws.{steady-means, steady-same, steady-then}
 use Rattle.serve.proofs.TameLaws.{mute, bare-tame}
+
+-- ---- the plans after an EXECUTE, made anew or as they were
+
+abbrev pub plannedAnew : List ℕ → Areas → Bool → Areas
+plannedAnew table a b =
+    record { words = a .words; values = a .values; fixed = a .fixed; block = a .block; changed = a .changed; samples = a .samples; plans = cond b (plansOf table (tableArea (a .fixed))) (a .plans) }
 
 -- ---- which step
 
@@ -73,7 +83,7 @@ module _ (c : Config) (i : Inner) (lag : ℕ) (q : Request) where
   unfolding internalStep internalOf
   internal-write e = simp e
 
-  pub internal-execute : q .command ≡ 0x31 → internalStep c i lag q ≡ alone i (executed (i .core) (i .areas) (blocks.executeOf (i .core .write) (i .areas .fixed) (i .areas .block) q))
+  pub internal-execute : q .command ≡ 0x31 → internalStep c i lag q ≡ alone i (executed (c .inputs) (i .core) (i .areas) (blocks.executeOf (i .core .write) (i .areas .fixed) (i .areas .block) q))
   unfolding internalStep internalOf
   internal-execute e = simp e
 
@@ -149,13 +159,14 @@ module _ (i : Inner) {m : Stepped} {a : Areas} {p : Port} {ls entry exit : List 
       (record { ended = w .ended; acted = refl; counted = sym (ap length bare); written = sym (put-none entry replyHead) ∙ ap (put entry replyHead) (sym bare); kept = rw (← (w .waiting)) k; areas = refl; tame = t })
 
   -- 20h/31h
-  pub acts-executed : {x : blocks.Executed} {u v bl : List ℕ} (f : Executed) → x .says .chars ≡ [] → m ≡ alone i (executed (i .core) (i .areas) x) → ExecutesAs u x v bl f → exit ≡ entry
+  pub acts-executed : (table : List ℕ) {x : blocks.Executed} {u v bl : List ℕ} (f : Executed) → x .says .chars ≡ [] → m ≡ alone i (executed table (i .core) (i .areas) x)
+      → ExecutesAs u x v bl f → exit ≡ entry
       → r ≡ record { outcome = f .outcome; action = Rest; count = 0 }
       → Kept (withError (withConfigure (i .core) (cond (f .configures) false (i .core .configure))) (cond (f .clears) false (i .core .error))) (i .history .memory) p ls
-      → a ≡ record { words = i .areas .words; values = i .areas .values; fixed = x .fixed; block = bl; changed = i .areas .changed; samples = i .areas .samples }
+      → a ≡ plannedAnew table (record { words = i .areas .words; values = i .areas .values; fixed = x .fixed; block = bl; changed = i .areas .changed; samples = i .areas .samples; plans = i .areas .plans }) (f .configures)
       → StepPromise m a p ls entry exit r
   unfolding alone executed
-  acts-executed f bare z w x e k y =
+  acts-executed table f bare z w x e k y =
       let t = bare-tame bare in
       rw (z, e, y, x)
       (record {
@@ -164,7 +175,7 @@ module _ (i : Inner) {m : Stepped} {a : Areas} {p : Port} {ls entry exit : List 
         counted = sym (ap length bare);
         written = sym (put-none entry replyHead) ∙ ap (put entry replyHead) (sym bare);
         kept = rw (w .configured, w .cleared) at k;
-        areas = rw (w .block-left);
+        areas = rw (w .block-left, w .configured);
         tame = t;
       })
 
@@ -216,7 +227,7 @@ module _ (u : List ℕ) where
   unshifted-then v w a b =
       record { steady = steady-then u v w (a .steady) (b .steady); counts = b .counts ∙ a .counts }
 
-  -- the areas, where only numbers were written, or with the words or the fixed area as they were left
+  -- the areas, where only numbers were written, or with the words as they were left
   pub numbers-kept : (block : List ℕ) (ss : List (List ℕ)) (v : List ℕ) → NumbersOnly u v → areasIn v block ss ≡ areasIn u block ss
   numbers-kept block ss v r = ap (λ (x : Unit). areasBy x block ss) (r .means)
 
@@ -229,9 +240,26 @@ module _ (u : List ℕ) where
   pub words-left : (block : List ℕ) (ss : List (List ℕ)) (v : List ℕ) {ws : List ℕ} → unitIn v ≡ setWords (unitIn u) ws → areasIn v block ss ≡ withWords (areasIn u block ss) ws
   words-left block ss v e = ap (λ (x : Unit). areasBy x block ss) e
 
-  pub fixed-left : (block : List ℕ) (ss : List (List ℕ)) (v : List ℕ) {fs : List ℕ} → unitIn v ≡ setFixed (unitIn u) fs
-      → areasIn v block ss ≡ record { words = unitIn u .words; values = unitIn u .values; fixed = fs; block = block; changed = unitIn u .changed; samples = ss }
-  fixed-left block ss v e = ap (λ (x : Unit). areasBy x block ss) e
+  -- the plans, where the tables may have changed
+  pub plans-means : (v : List ℕ) (b : Bool) → length u ≡ unitLong
+      → v ≡ cond b (putPlans u (plansOf (configIn u .inputs) (tableArea (unitIn u .fixed)))) u
+      → (unitIn v ≡ setPlans (unitIn u) (cond b (plansOf (configIn u .inputs) (tableArea (unitIn u .fixed))) (unitIn u .plans))) × (length v ≡ length u)
+  plans-means v true long e =
+      (ap unitIn e ∙ plans-written u _ long (plans-long (configIn u .inputs) (tableArea (unitIn u .fixed))), ap length e ∙ length-put-in u plansRegion 0 _)
+  plans-means v false long e = (ap unitIn e, ap length e)
+
+  -- of a fixed area that was written before them
+  pub plans-left : (v w block : List ℕ) (ss : List (List ℕ)) (b : Bool) {fs : List ℕ} → unitIn v ≡ setFixed (unitIn u) fs
+      → unitIn w ≡ setPlans (unitIn v) (cond b (plansOf (configIn v .inputs) (tableArea (unitIn v .fixed))) (unitIn v .plans))
+      → areasIn w block ss
+      ≡ plannedAnew (configIn u .inputs) (record { words = unitIn u .words; values = unitIn u .values; fixed = fs; block = block; changed = unitIn u .changed; samples = ss; plans = unitIn u .plans }) b
+  plans-left v w block ss b e f = ap (λ (x : Unit). areasBy x block ss) f ∙ ap (λ (x : Unit). plannedAnew (x .config .inputs) (areasBy x block ss) b) e
+
+  pub unshifted-plans : (v : List ℕ) {ps : List ℕ} → unitIn v ≡ setPlans (unitIn u) ps → length v ≡ length u → Unshifted u v
+  unshifted-plans v e l = record { steady = steady-means u v e refl refl refl refl l; counts = ap (λ (x : Unit). x .counts) e }
+
+  pub numbers-by-plans : (v : List ℕ) {ps : List ℕ} → unitIn v ≡ setPlans (unitIn u) ps → numbersIn v ≡ numbersIn u
+  numbers-by-plans v e = ap (λ (x : Unit). x .numbers) e
 
   -- 20h/11h
   pub reset-left : (q : Request) (v : List ℕ) {entry exit : List ℕ} {r : Filled} → length u ≡ unitLong

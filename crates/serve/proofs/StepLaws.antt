@@ -16,7 +16,7 @@ use Rattle.model.specs.Scan.{refuses}
 use Rattle.model.specs.Inputs as points
 use Rattle.model.specs.Means.{equippedNow}
 use Rattle.model.specs.Calculations.{calculationsOf}
-use Rattle.model.specs.Tables.{tablesOf}
+use Rattle.model.specs.Plans.{plannedOf}
 use Rattle.model.specs.Control.{Controlled, controlOf, breaks}
 use Rattle.model.specs.History.{historyOf}
 use Rattle.model.specs.Step.{
@@ -73,7 +73,7 @@ module _ (c : Config) (i : Inner) (lag : ℕ) (q : Request) where
     unfolding stepOf otherOf
     step-calculations e = simp (b, e)
 
-    pub step-tables : q .function ≡ 0x0A → stepOf c i lag q ≡ alone i (scanned (i .core) (i .areas) (tablesOf (c .inputs) (i .areas .fixed) (i .areas .words) q))
+    pub step-tables : q .function ≡ 0x0A → stepOf c i lag q ≡ alone i (scanned (i .core) (i .areas) (plannedOf (i .areas .plans) (i .areas .fixed) (i .areas .words) q))
     unfolding stepOf otherOf
     step-tables e = simp (b, e)
 

@@ -12,7 +12,7 @@ use Rattle.chars.proofs.PutLaws.{part-most}
 use Rattle.model.specs.Limits.{mostData, mostAsked, mostLag}
 use Rattle.model.specs.Frame.{Request, masterOf}
 use Rattle.model.specs.Outcome.{sendingOf}
-use Rattle.model.specs.Scan.{Scan, counts, withNoData}
+use Rattle.model.specs.Scan.{Scan, refuses, counts, withNoData}
 use Rattle.model.specs.Inputs.{Changed, hasAccumulator, resetCountOf, unreserved, inputsOf}
 use Rattle.model.specs.Blocks.{WriteResult, Executed, reaches, blockOf, waitsFor, writeWhen, writeOf, notExecuted, executes, executeWhen, executeOf, returned, readOf}
 use Rattle.model.specs.Clock.{Timed, timeFits, setTimeOf, timeChars, readTimeOf}
@@ -26,7 +26,8 @@ use Rattle.chars.specs.Gather.{gather, upFrom}
 use Rattle.model.specs.Config.{Config, has, within, validOf, hasFile, sizeOf}
 use Rattle.model.specs.State.{Files, History, heldIn}
 use Rattle.model.specs.Change.{Change, stays}
-use Rattle.model.specs.Tables.{sendable, sendOf, tableScan, tablesOf}
+use Rattle.model.specs.Tables.{tableAsked}
+use Rattle.model.specs.Plans.{plannedScan, plannedOf}
 use Rattle.model.specs.Calculations.{fitting, valueOf, allOf, pairOf, missingOf, askedOf, calculationsOf}
 use Rattle.model.specs.Control.{Controlled, isOf, takes, selectWhen, operateWhen, resetWhen, selectOf, controlOf}
 use Rattle.model.specs.History.{Told, fileOf, dumps, acknowledges, untold, historyChars, mostOf, toldFrom, agrees, againWhen, tellOf, historyOf, freedFor}
@@ -37,9 +38,8 @@ use Rattle.model.specs.declared.Pending.{Pending}
 use Rattle.model.specs.declared.Pending.the-variants.{NoWrite, Waits}
 use Rattle.model.specs.declared.Memory.{Memory}
 use Rattle.model.specs.declared.Memory.the-variants.{Nothing, Remembered}
-use Rattle.model.specs.declared.Table.{Table}
 use Rattle.inputs.proofs.Fits.{inputs-fit}
-use Rattle.tables.proofs.Fits.{tables-fit}
+use Rattle.tables.proofs.Fits.{planned-fit}
 use Rattle.calculations.proofs.Fits.{calculations-fit}
 use Rattle.layout.specs.Records.{Layout, packed, recordsIn, filesLaid}
 use Rattle.layout.proofs.RecordsLaws.{files-valid, size-valid}
@@ -159,16 +159,15 @@ inputs-says : (table words : List ℕ) (q : Request) → Says (inputsOf table wo
 unfolding Says inputsOf answered
 inputs-says table words q = by-cond Says (unreserved (q .command)) (λ e. no-data-says q _ refl) (λ e. refl)
 
-send-says : (table area words : List ℕ) (one two own : Table) → Says (sendOf table area words one two own)
-unfolding Says sendOf answered
-send-says table area words one two own =
-    by-cond Says (sendable table area own && (sendable table area one && sendable table area two))
-    (λ e. by-cond Says (ltb 255 (one .quantity + two .quantity + own .quantity)) (λ e. refl) (λ e. refl))
-    (λ e. refl)
+scan-says : (plans area words : List ℕ) (k : ℕ) → Says (plannedScan plans area words k)
+unfolding Says plannedScan answered
+scan-says plans area words k =
+    by-cond Says (eqb (getD plans k 0) 0) (λ e. refl)
+    (λ e. by-cond (λ (o : Outcome). Says (refuses o)) (eqb (getD plans k 0) 9) (λ e. refl) (λ e. refl))
 
-tables-says : (table fixed words : List ℕ) (q : Request) → Says (tablesOf table fixed words q)
-unfolding Says tablesOf tableScan answered
-tables-says table fixed words q = by-cond Says (within 0x41 0x4F (q .command)) (λ e. no-data-says q _ (send-says _ _ _ _ _ _)) (λ e. refl)
+tables-says : (plans fixed words : List ℕ) (q : Request) → Says (plannedOf plans fixed words q)
+unfolding Says plannedOf tableAsked answered
+tables-says plans fixed words q = by-cond Says (within 0x41 0x4F (q .command)) (λ e. no-data-says q _ (scan-says _ _ _ _)) (λ e. refl)
 
 pub inputs-tame : (table words : List ℕ) (q : Request) → Tame (inputsOf table words q .outcome) (inputsOf table words q .chars)
 unfolding Says
@@ -178,9 +177,9 @@ pub calculations-tame : (table values : List ℕ) (q : Request) → Tame (calcul
 unfolding Says
 calculations-tame table values q = tame (calculations-says table values q) (calculations-fit table values q)
 
-pub tables-tame : (table fixed words : List ℕ) (q : Request) → Tame (tablesOf table fixed words q .outcome) (tablesOf table fixed words q .chars)
+pub tables-tame : (plans fixed words : List ℕ) (q : Request) → Tame (plannedOf plans fixed words q .outcome) (plannedOf plans fixed words q .chars)
 unfolding Says
-tables-tame table fixed words q = tame (tables-says table fixed words q) (tables-fit table fixed words q)
+tables-tame plans fixed words q = tame (tables-says plans fixed words q) (planned-fit plans fixed words q)
 
 -- ---- 10h
 

@@ -38,6 +38,7 @@ kept-same c l m e a n t =
       dropped = ap (λ (s : State). s .inner .history .dropped) e i;
       changed = ap (λ (s : State). s .inner .areas .changed) e i;
       taken = t i;
+      plans = ap (λ (s : State). s .inner .areas .plans) e i;
     }
 
 -- what is owned follows from the unit that it means, as its memory is characters
@@ -45,7 +46,7 @@ pub owned-same : (y z : Owned) → length (y .unit) ≡ unitLong → length (z .
     → standing y ≡ true → standing z ≡ true → unitIn (y .unit) .layout ≡ unitIn (z .unit) .layout → configIn (y .unit) ≡ configIn (z .unit) → keptIn y ≡ keptIn z → y ≡ z
 owned-same y z l m p q a b t c e =
     let n = readable-one (numbersIn (y .unit)) (numbersIn (z .unit)) (stands-readable y a) (stands-readable z b) (ap (λ (k : Kept). k .core) e) (ap (λ (k : Kept). k .memory) e) (ap (λ (k : Kept). k .port) e) in
-    let u = unit-one (y .unit) (z .unit) l m p q (λ i. record { layout = t i; config = c i; numbers = n i; words = e i .words; values = e i .results; fixed = e i .fixed; counts = e i .counts; dropped = e i .dropped; changed = e i .changed; taken = e i .taken }) in
+    let u = unit-one (y .unit) (z .unit) l m p q (λ i. record { layout = t i; config = c i; numbers = n i; words = e i .words; values = e i .results; fixed = e i .fixed; counts = e i .counts; dropped = e i .dropped; changed = e i .changed; taken = e i .taken; plans = e i .plans }) in
     λ i. record { unit = u i; block = e i .block; area = e i .area }
 
 pub ended-same : (o p : Outcome) → Ended o ≡ Ended p → o ≡ p

@@ -27,7 +27,9 @@ ghost use Rattle.model.specs.Frame.{asked};
 ghost use Rattle.model.specs.Clock.{clockFits};
 ghost use Rattle.model.specs.Step.{restarted, withClock, withWrite, withConfigure, withError};
 ghost use Rattle.layout.specs.Numbers.{coreIn, memoryIn, portIn};
-ghost use Rattle.layout.specs.Unit.{numbersIn};
+ghost use Rattle.model.specs.Tables.{tableArea};
+ghost use Rattle.model.specs.Plans.{plansOf};
+ghost use Rattle.layout.specs.Unit.{unitIn, configIn, numbersIn, putPlans};
 ghost use Rattle.serve.specs.Promises.{NumbersPromise, InternalPromise, ReturnedPromise};
 
 // ---- what a function hands back, kept and made a step
@@ -50,6 +52,16 @@ fn unless(cleared: bool, bit: bool) -> bool
         return false;
     }
     bit
+}
+
+// What configures the unit is in its tables, and makes every plan anew.
+fn planned(unit: &mut [u8; UNIT], anew: bool)
+    ensures { λ _. ⌜ now (unit .exit)
+        ≡ cond anew (putPlans (now (unit .entry)) (plansOf (configIn (now (unit .entry)) .inputs) (tableArea (unitIn (now (unit .entry)) .fixed)))) (now (unit .entry)) ⌝ }
+{
+    if anew {
+        tables::replan(unit);
+    }
 }
 
 fn executed(unit: &mut [u8; UNIT], done: blocks::Executed) -> Step
@@ -134,6 +146,7 @@ pub fn internal<'a>(
         0x31 => {
             let write = write_kept(unit);
             let done = blocks::execute(write, frame, body, unit, block);
+            planned(unit, done.configures);
             executed(unit, done)
         }
         0x38 => {

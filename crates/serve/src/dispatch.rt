@@ -88,7 +88,7 @@ fn act<'a>(
         0x00 => scanned(inputs::scan(unit, frame, body, buffer)),
         0x03 => scanned(calculations::scan(unit, frame, body, buffer)),
         0x04 => scanned(history::serve(unit, records, frame, body, buffer)),
-        0x0A => scanned(tables::scan(unit, frame, body, buffer)),
+        0x0A => scanned(tables::planned(unit, frame, body, buffer)),
         0x10 => {
             let hold = hold_kept(unit);
             let ran = control::control(unit, hold, frame, body, buffer);

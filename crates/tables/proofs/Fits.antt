@@ -5,7 +5,7 @@ use Prim.Native.Nat.{ℕ, _+_, _*_, _≤_, zero-le}
 use native.Mathlib.Omega.{arith}
 use mathlib.Core.List.{List, _++_}
 use borrow.Author.Tests.{ltb-false}
-use lib.Dec.{ltb}
+use lib.Dec.{eqb, ltb}
 use lib.ListN.{length, getD, length-append}
 use Rattle.chars.specs.Gather.{gather}
 use Rattle.chars.proofs.PutLaws.{part-most}
@@ -13,8 +13,10 @@ use Rattle.chars.proofs.WordLaws.{length-word}
 use Rattle.chars.proofs.GatherLaws.{gather-each}
 use Rattle.model.specs.Frame.{Request}
 use Rattle.model.specs.Config.{within}
-use Rattle.model.specs.Tables.{tableNumbers, wordIn, sendOf, tableScan, tablesOf}
+use Rattle.model.specs.Tables.{tableNumbers, wordIn, sendOf, tableScan, tableAsked, tablesOf}
+use Rattle.model.specs.Plans.{plannedNumbers, plannedScan, plannedOf}
 use Rattle.model.specs.declared.Table.{Table}
+use Rattle.model.proofs.PlanLaws.{numbers-most}
 use Rattle.tables.specs.Judged.{allSendable}
 use Rattle.points.proofs.Fits.{Fits, either, no-data-fits}
 
@@ -46,6 +48,19 @@ send-fits table area words one two own =
     (λ e. zero-le)
 
 pub tables-fit : (table fixed words : List ℕ) (q : Request) → Fits (tablesOf table fixed words q)
-unfolding tablesOf tableScan
+unfolding tablesOf tableAsked tableScan
 tables-fit table fixed words q =
     either (within 0x41 0x4F (q .command)) _ _ (λ e. no-data-fits q _ (send-fits table _ words _ _ _)) (λ e. zero-le)
+
+-- by whatever plan
+scan-fits : (plans area words : List ℕ) (k : ℕ) → Fits (plannedScan plans area words k)
+unfolding plannedScan
+scan-fits plans area words k =
+    either (eqb (getD plans k 0) 0) _ _
+    (λ e. omega (arith, words-long words (plannedNumbers plans area k), numbers-most plans area k))
+    (λ e. zero-le)
+
+pub planned-fit : (plans fixed words : List ℕ) (q : Request) → Fits (plannedOf plans fixed words q)
+unfolding plannedOf tableAsked
+planned-fit plans fixed words q =
+    either (within 0x41 0x4F (q .command)) _ _ (λ e. no-data-fits q _ (scan-fits plans _ words _)) (λ e. zero-le)

@@ -2,5 +2,6 @@
 pub mod TableLaws
 pub mod ToldLaws
 pub mod WalkLaws
+pub mod PlannedLaws
 pub mod Fits
 pub mod Unique

@@ -6,9 +6,9 @@ use native.Mathlib.Nat.{add-zero, add-suc}
 use native.Mathlib.Numerals.{add-one}
 use native.Mathlib.Omega.{arith}
 use mathlib.Core.List.{List, _∷_, _++_}
-use mathlib.Core.Bool.{Bool, true, false, not, _&&_}
-use borrow.Author.Tests.{leb-true, le-leb, lt-leb, lt-ltb, le-ltb, eq-eqb, ne-eqb}
-use lib.Dec.{lit<, eqb}
+use mathlib.Core.Bool.{Bool, true, false, not, _&&_, true≢false}
+use borrow.Author.Tests.{leb-true, eqb-true, le-leb, lt-leb, lt-ltb, le-ltb, eq-eqb, ne-eqb}
+use lib.Dec.{lit<, eqb, leb}
 use lib.ListN.{length, getD}
 use lib.Seq.{drop-cons}
 use Rattle.chars.specs.Put.{part}
@@ -16,15 +16,18 @@ use Rattle.chars.specs.Word.{word}
 use Rattle.chars.specs.Gather.{gather, every}
 use Rattle.chars.proofs.PutLaws.{part-none}
 use Rattle.model.specs.Frame.{Request}
-use Rattle.model.specs.Scan.{Fills, tells, refuses, withNoData}
-use Rattle.model.specs.Tables.{standsAt, tableAt, endOf, startOf, tableOf, tableNumbers, wordIn, sendOf, tableScan, tableArea, tablesOf}
+use Rattle.model.specs.Limits.{longestReply}
+use Rattle.model.specs.Config.{within}
+use Rattle.model.specs.Scan.{Scan, Fills, tells, refuses, counts, inRoom, withNoData}
+use Rattle.model.specs.Tables.{standsAt, tableAt, endOf, startOf, tableOf, tableNumbers, wordIn, sendOf, tableScan, tableAsked}
 use Rattle.model.specs.declared.Outcome.the-variants.{Unknown, NotValid, TooLong}
 use Rattle.model.specs.declared.Table.{Table}
 use Rattle.model.specs.declared.Filled.{Filled}
 use Rattle.layout.specs.Unit.{unitSizes, unitLong, fixedRegion, unitFrom, unitIn}
 use Rattle.layout.proofs.UnitLaws.{region-size}
-use Rattle.tables.specs.Judged.{allSendable}
-use Rattle.model.proofs.Conditions.{and-left}
+use Rattle.tables.specs.Judged.{allSendable, admits}
+use Rattle.model.proofs.Conditions.{and-left, and-right}
+use Rattle.points.proofs.AnswerLaws.{in-room, no-data}
 use Rattle.points.proofs.NumberLaws.{within-low, within-high, within-both}
 
 -- ---- a table at a place
@@ -183,18 +186,58 @@ pub fixed-long : (u fixed : List ℕ) → length u ≡ unitLong → fixed ≡ un
 unfolding unitFrom unitSizes
 fixed-long u fixed l e = ap length e ∙ region-size u l fixedRegion (lit< tt)
 
-module _ (table fixed words : List ℕ) (q : Request) where
-  pub tables-low : q .command < 0x41 → tablesOf table fixed words q ≡ refuses Unknown
-  unfolding tablesOf
-  tables-low h = simp (within-low 0x41 0x4F (q .command) h)
+-- ---- a request for a table, by whichever scan
 
-  pub tables-high : 0x41 ≤ q .command → 0x4F < q .command → tablesOf table fixed words q ≡ refuses Unknown
-  unfolding tablesOf
-  tables-high h k = simp (within-high 0x41 0x4F (q .command) h k)
+module _ (scan : ℕ → Scan) (q : Request) where
+  pub asked-low : q .command < 0x41 → tableAsked scan q ≡ refuses Unknown
+  unfolding tableAsked
+  asked-low h = simp (within-low 0x41 0x4F (q .command) h)
 
-  pub tables-known : 0x41 ≤ q .command → q .command ≤ 0x4F
-      → tablesOf table fixed words q ≡ withNoData q (tableScan table (tableArea fixed) words (q .command - 0x40))
-  unfolding tablesOf
-  tables-known h k =
+  pub asked-high : 0x41 ≤ q .command → 0x4F < q .command → tableAsked scan q ≡ refuses Unknown
+  unfolding tableAsked
+  asked-high h k = simp (within-high 0x41 0x4F (q .command) h k)
+
+  pub asked-known : 0x41 ≤ q .command → q .command ≤ 0x4F → tableAsked scan q ≡ withNoData q (scan (q .command - 0x40))
+  unfolding tableAsked
+  asked-known h k =
       let e : q .command % 16 ≡ q .command - 0x40 = omega arith in
       simp (within-both 0x41 0x4F (q .command) h k, e)
+
+-- what is admitted is left to the scan
+pub record Admitted (q : Request) (room : ℕ) : Type 0 where
+  pub low : 0x41 ≤ q .command
+  pub high : q .command ≤ 0x4F
+  pub roomy : longestReply ≤ room
+  pub asks : (scan : ℕ → Scan) → inRoom room (tableAsked scan q) ≡ scan (q .command - 0x40)
+
+module _ (q : Request) (room : ℕ) where
+  pub admits-known : admits room q ≡ true → Admitted q room
+  unfolding admits within counts
+  admits-known a =
+      let r = leb-true longestReply room (and-left _ _ a) in
+      let b = and-right (leb longestReply room) _ a in
+      let w = and-left (leb 0x41 (q .command) && leb (q .command) 0x4F) _ b in
+      let l = leb-true 0x41 (q .command) (and-left _ _ w) in
+      let h = leb-true (q .command) 0x4F (and-right (leb 0x41 (q .command)) _ w) in
+      let n = eqb-true (length (q .body)) 0 (and-right (leb 0x41 (q .command) && leb (q .command) 0x4F) _ b) in
+      record { low = l; high = h; roomy = r; asks = λ scan. in-room _ room r ∙ asked-known scan q l h ∙ no-data q _ n }
+
+  pub admits-in : longestReply ≤ room → 0x41 ≤ q .command → q .command ≤ 0x4F → admits room q ≡ eqb (length (q .body)) 0
+  unfolding admits counts
+  admits-in r l h = rw (le-leb longestReply room r, within-both 0x41 0x4F (q .command) l h)
+
+  pub admits-high : longestReply ≤ room → 0x41 ≤ q .command → 0x4F < q .command → admits room q ≡ false
+  unfolding admits
+  admits-high r l h = rw (le-leb longestReply room r, within-high 0x41 0x4F (q .command) l h)
+
+  pub admits-low : longestReply ≤ room → q .command < 0x41 → admits room q ≡ false
+  unfolding admits
+  admits-low r l = rw (le-leb longestReply room r, within-low 0x41 0x4F (q .command) l)
+
+  pub admits-short : room < longestReply → admits room q ≡ false
+  unfolding admits
+  admits-short r = rw (lt-leb longestReply room r)
+
+  -- a request for a table that is not admitted has data
+  pub some-body : admits room q ≡ false → longestReply ≤ room → 0x41 ≤ q .command → q .command ≤ 0x4F → length (q .body) ≡ 0 → ⊥
+  some-body a r l h n = true≢false (sym (admits-in r l h ∙ eq-eqb _ _ n) ∙ a)

@@ -1,6 +1,9 @@
-// Function 0Ah: the scan of a table, with the two that its nibbles name.
+// Function 0Ah: the scan of a table, with the two that its nibbles name, by the plain reading of the tables and by plans made of them.
+mod by_plan;
+mod plans;
 mod told;
 
+use by_plan::planned_scan;
 use layout::UNIT;
 use model::Filled;
 use model::Frame;
@@ -8,11 +11,12 @@ use model::Input;
 use model::Outcome;
 use model::Reply;
 use model::Table;
+pub use plans::replan;
 use points::refused;
 pub use told::start_anew;
 ghost use mathlib.Core.Path.{_≡_};
 ghost use Prim.Native.Nat.{_+_, _*_, _-_, _≤_, _<_, max};
-ghost use mathlib.Core.Bool.{true};
+ghost use mathlib.Core.Bool.{true, false};
 ghost use mathlib.Core.List.{[]};
 ghost use lib.ListN.{length};
 ghost use Rattle.chars.specs.Put.{part};
@@ -22,8 +26,9 @@ ghost use Rattle.model.specs.Frame.{asked};
 ghost use Rattle.model.specs.Config.{has};
 ghost use Rattle.model.specs.Scan.{Fills, inRoom};
 ghost use Rattle.model.specs.Tables.{standsAt, tableAt, startOf, tableOf, sendable, wordIn, sendOf, tableScan, tablesOf};
+ghost use Rattle.model.specs.Plans.{plannedOf};
 ghost use Rattle.layout.specs.Unit.{unitIn, configIn};
-ghost use Rattle.tables.specs.Judged.{Within, allSendable};
+ghost use Rattle.tables.specs.Judged.{Within, allSendable, admits, TurnedAway};
 ghost use Rattle.tables.specs.Walked.{areaLong, Passed, StartKept, Found};
 
 // No table starts at the last character of the area, so the start of one fits a character, and this stands for none.
@@ -288,27 +293,58 @@ fn table_scan(unit: &[u8; UNIT], area: &[u8], k: u8, reply: &mut [u8]) -> Filled
     send(unit, area, one, two, own, reply)
 }
 
-pub fn scan<'a>(unit: &'a [u8; UNIT], frame: Frame, body: &'a [u8], reply: &mut [u8]) -> Filled
-    ensures { λ r. ⌜ Fills (now (reply .entry)) (now (reply .exit))
-        (inRoom (length (now (reply .entry)))
-        (tablesOf (configIn (now (unit .entry)) .inputs) (unitIn (now (unit .entry)) .fixed) (unitIn (now (unit .entry)) .words)
-        (asked frame (now (body .entry))))) r ⌝ }
+// A request for a table, with room for any reply.
+fn admitted(frame: Frame, body: &[u8], room: usize) -> bool
+    ensures { λ r. ⌜ r ≡ admits room (asked frame (now (body .entry))) ⌝ }
 {
-    if reply.len() < Reply::LONGEST {
+    let command = frame.command;
+    Reply::LONGEST <= room && (0x41 <= command && (command <= 0x4F && body.len() == 0))
+}
+
+// Any other, by whichever scan.
+fn turned_away(frame: Frame, body: &[u8], room: usize) -> Filled
+    requires { ⌜ admits room (asked frame (now body)) ≡ false ⌝ }
+    ensures { λ r. ⌜ TurnedAway room (asked frame (now (body .entry))) r ⌝ }
+{
+    let command = frame.command;
+    if room < Reply::LONGEST {
         return refused(Outcome::BufferShort);
     }
-    let command = frame.command;
     if command < 0x41 {
         return refused(Outcome::Unknown);
     }
     if 0x4F < command {
         return refused(Outcome::Unknown);
     }
-    if body.len() != 0 {
-        return refused(Outcome::WrongCount);
+    refused(Outcome::WrongCount)
+}
+
+pub fn scan<'a>(unit: &'a [u8; UNIT], frame: Frame, body: &'a [u8], reply: &mut [u8]) -> Filled
+    ensures { λ r. ⌜ Fills (now (reply .entry)) (now (reply .exit))
+        (inRoom (length (now (reply .entry)))
+        (tablesOf (configIn (now (unit .entry)) .inputs) (unitIn (now (unit .entry)) .fixed) (unitIn (now (unit .entry)) .words)
+        (asked frame (now (body .entry))))) r ⌝ }
+{
+    if admitted(frame, body, reply.len()) {
+        chars::told_long(unit);
+        let fixed = layout::fixed_of(unit);
+        // No remainder: with one the compiler keeps the command twice, at the cost of every function.
+        return table_scan(unit, &fixed[16..272], frame.command - 0x40, reply);
     }
-    chars::told_long(unit);
-    let fixed = layout::fixed_of(unit);
-    // No remainder: with one the compiler keeps the command twice, at the cost of every function.
-    table_scan(unit, &fixed[16..272], command - 0x40, reply)
+    turned_away(frame, body, reply.len())
+}
+
+// By the plan of the table.
+pub fn planned<'a>(unit: &'a [u8; UNIT], frame: Frame, body: &'a [u8], reply: &mut [u8]) -> Filled
+    ensures { λ r. ⌜ Fills (now (reply .entry)) (now (reply .exit))
+        (inRoom (length (now (reply .entry)))
+        (plannedOf (unitIn (now (unit .entry)) .plans) (unitIn (now (unit .entry)) .fixed) (unitIn (now (unit .entry)) .words)
+        (asked frame (now (body .entry))))) r ⌝ }
+{
+    if admitted(frame, body, reply.len()) {
+        chars::told_long(unit);
+        let fixed = layout::fixed_of(unit);
+        return planned_scan(unit, &fixed[16..272], frame.command - 0x40, reply);
+    }
+    turned_away(frame, body, reply.len())
 }

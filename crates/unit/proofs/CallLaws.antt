@@ -94,7 +94,7 @@ next-laid : (c : Config) (k l : Kept) (e : Event) → stateOf c l ≡ nextOf c (
 unfolding nextLaid keptAs
 next-laid c k l e n ch t =
     λ i. keptOf (n i .inner .core) (n i .inner .history .memory) (n i .port) (n i .inner .areas .words) (n i .inner .areas .values) (n i .inner .areas .fixed)
-    (n i .inner .areas .block) (ch .moved i) (ch .counted i) (n i .inner .history .dropped) (n i .inner .areas .changed) (t i)
+    (n i .inner .areas .block) (ch .moved i) (ch .counted i) (n i .inner .history .dropped) (n i .inner .areas .changed) (t i) (n i .inner .areas .plans)
 
 -- and so what a run of them shows and leaves
 pub calls-laid : (c : Config) {k l : Kept} {es : List Event} {xs : List Result} → Calls c k es xs l → (xs ≡ answersLaid (packed c) c k es) × (l ≡ afterLaid (packed c) c k es)

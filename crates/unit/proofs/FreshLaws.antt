@@ -11,9 +11,12 @@ use Rattle.chars.specs.Put.{put}
 use Rattle.chars.proofs.PutLaws.{length-put, put-none, put-more, take-put-front}
 use Rattle.model.specs.Config.{Config}
 use Rattle.model.specs.State.{freshCore, freshAreas, freshHistory, freshPort, freshOf}
+use Rattle.model.specs.Tables.{tableArea}
+use Rattle.model.specs.Plans.{plansOf, emptyPlans}
 use Rattle.model.specs.Port.{markNumber}
 use Rattle.model.specs.declared.Memory.the-variants.{Nothing}
 use Rattle.model.proofs.Conditions.{and-both}
+use Rattle.model.proofs.PlanLaws.{plans-long, plans-empty}
 use Rattle.layout.specs.Records.{packed, roomOf}
 use Rattle.history.proofs.RunLaws.{files-none, samples-none}
 use Rattle.layout.specs.Numbers.{
@@ -35,9 +38,9 @@ use Rattle.layout.specs.Numbers.{
   Written,
 }
 use Rattle.layout.proofs.NumbersLaws.{written-readable}
-use Rattle.layout.specs.Unit.{unitLong, Unit, unitIn, configIn, numbersIn, configGiven, setNumbers, blankUnit, blankOf, Renumbered}
+use Rattle.layout.specs.Unit.{unitLong, Unit, unitIn, configIn, numbersIn, configGiven, setNumbers, setPlans, plansRegion, putPlans, blankUnit, blankOf, Renumbered}
 use Rattle.layout.specs.Regions.{startIn}
-use Rattle.layout.proofs.UnitLaws.{configFigure, renumbered-then}
+use Rattle.layout.proofs.UnitLaws.{configFigure, renumbered-then, plans-written, length-put-in}
 use Rattle.layout.proofs.BlankLaws.{blank-long, blank-means}
 use Rattle.layout.specs.Kept.{keptOf, stateOf, ownedOf, keptIn, standing}
 use Rattle.unit.specs.Fresh.{freshUnit, FreshPromise}
@@ -68,18 +71,24 @@ fresh-numbers : (c : Config) → putConfigure true (putClock (record { day = 1; 
 unfolding freshCore freshPort numbersOf holdNumbers writeNumbers memoryNumbers markNumber bitOf
 fresh-numbers c = refl
 
--- the memory of a configuration's characters, the clock kept in it and then the configure bit
-pub fresh-kept : (cs : List ℕ) {u v w : List ℕ} → length cs ≡ configFigure → u ≡ blankUnit cs
+-- the memory of a configuration's characters, the clock kept in it, then the configure bit and the plans
+pub fresh-kept : (cs : List ℕ) {u v w x : List ℕ} → length cs ≡ configFigure → u ≡ blankUnit cs
     → Renumbered u v (putClock (record { day = 1; hour = 0; minute = 0; second = 0; ms = 0 }) (numbersIn u)) → Renumbered v w (putConfigure true (numbersIn v))
-    → (unitIn w ≡ freshUnit (configGiven cs)) × (length w ≡ unitLong)
+    → x ≡ putPlans w (plansOf (configIn w .inputs) (tableArea (unitIn w .fixed)))
+    → (unitIn x ≡ freshUnit (configGiven cs)) × (length x ≡ unitLong)
 unfolding startIn
-fresh-kept cs {u} {v} {w} l e a b =
+fresh-kept cs {u} {v} {w} {x} l e a b f =
     let r = renumbered-then (putConfigure true) u v w a b in
-    let m : unitIn u ≡ blankOf (configGiven cs) = ap unitIn e ∙ blank-means cs l in (
-      r .means
-          ∙ ap (λ (x : Unit). setNumbers x (putConfigure true (putClock (record { day = 1; hour = 0; minute = 0; second = 0; ms = 0 }) (x .numbers)))) m
-          ∙ ap (setNumbers (blankOf (configGiven cs))) (fresh-numbers (configGiven cs)),
-      r .long ∙ ap length e ∙ blank-long cs,
+    let m : unitIn u ≡ blankOf (configGiven cs) = ap unitIn e ∙ blank-means cs l in
+    let n : unitIn w ≡ setNumbers (blankOf (configGiven cs)) (numbersOf freshCore Nothing freshPort) =
+    r .means
+    ∙ ap (λ (x : Unit). setNumbers x (putConfigure true (putClock (record { day = 1; hour = 0; minute = 0; second = 0; ms = 0 }) (x .numbers)))) m
+    ∙ ap (setNumbers (blankOf (configGiven cs))) (fresh-numbers (configGiven cs)) in
+    let long : length w ≡ unitLong = r .long ∙ ap length e ∙ blank-long cs in (
+      ap unitIn f ∙ plans-written w _ long (plans-long (configIn w .inputs) (tableArea (unitIn w .fixed)))
+          ∙ ap (λ (x : Unit). setPlans x (plansOf (x .config .inputs) (tableArea (x .fixed)))) n
+          ∙ ap (setPlans (setNumbers (blankOf (configGiven cs)) (numbersOf freshCore Nothing freshPort))) (plans-empty (configGiven cs .inputs)),
+      ap length f ∙ length-put-in w plansRegion 0 _ ∙ long,
     )
 
 -- ---- the state
@@ -102,9 +111,9 @@ module _ (cs : List ℕ) {n : ℕ} (as-said : n ≡ configGiven cs .block) {u bl
       let w = fresh-written .means in
       let ks = laid-numbers in
       let x = f .means in
-      (λ i. stateOf (configIn u) (keptOf (coreIn (ks i)) (memoryIn (ks i)) (portIn (ks i)) (x i .words) (x i .values) (x i .fixed) (blank i) area (x i .counts) (x i .dropped) (x i .changed) (x i .taken)))
+      (λ i. stateOf (configIn u) (keptOf (coreIn (ks i)) (memoryIn (ks i)) (portIn (ks i)) (x i .words) (x i .values) (x i .fixed) (blank i) area (x i .counts) (x i .dropped) (x i .changed) (x i .taken) (x i .plans)))
       ∙ (λ i. stateOf (configIn u)
-      (keptOf (w .core i) (w .memory i) (w .port i) (replicate 256 0) (replicate 128 0) (replicate 528 0) (replicate (configIn u .block) 0) area (replicate 32 0) (replicate 32 0) (replicate 32 0) (replicate 16 0)))
+      (keptOf (w .core i) (w .memory i) (w .port i) (replicate 256 0) (replicate 128 0) (replicate 528 0) (replicate (configIn u .block) 0) area (replicate 32 0) (replicate 32 0) (replicate 32 0) (replicate 16 0) emptyPlans))
       ∙ rw (files-none (packed (configIn u)) (configIn u .values) area, samples-none (packed (configIn u)) area)
 
   pub laid-stands : roomOf (configIn u) ≤ length area → standing (ownedOf u bl area) ≡ true

@@ -103,13 +103,13 @@ module _ (c : Config) (k : Kept) where
     module _ (b : fits c (stateOf c k) ≡ true) (p : (a : Answer) → portAfter (k .port) e a ≡ k .port)
         (m : points.Changed) {r : Outcome} (w : r ≡ m .says .outcome) where
       pub heeds-word : makeOf c (stateOf c k .inner) e ≡ wordMade (stateOf c k .inner) m
-          → Heeds c e k (keptOf (k .core) (k .memory) (k .port) (m .area) (k .results) (k .fixed) (k .block) (k .area) (k .counts) (k .dropped) (k .changed) (k .taken)) (Ended r)
+          → Heeds c e k (keptOf (k .core) (k .memory) (k .port) (m .area) (k .results) (k .fixed) (k .block) (k .area) (k .counts) (k .dropped) (k .changed) (k .taken) (k .plans)) (Ended r)
       unfolding moves wordMade localMade quiet takenAfter
       heeds-word z =
           heeds-made (wordMade (stateOf c k .inner) m) b z (ap Ended w) (rw p) (still c (k .area) (k .counts)) refl
 
       pub heeds-value : makeOf c (stateOf c k .inner) e ≡ valueMade (stateOf c k .inner) m
-          → Heeds c e k (keptOf (k .core) (k .memory) (k .port) (k .words) (m .area) (k .fixed) (k .block) (k .area) (k .counts) (k .dropped) (k .changed) (k .taken)) (Ended r)
+          → Heeds c e k (keptOf (k .core) (k .memory) (k .port) (k .words) (m .area) (k .fixed) (k .block) (k .area) (k .counts) (k .dropped) (k .changed) (k .taken) (k .plans)) (Ended r)
       unfolding moves valueMade localMade quiet takenAfter
       heeds-value z =
           heeds-made (valueMade (stateOf c k .inner) m) b z (ap Ended w) (rw p) (still c (k .area) (k .counts)) refl
@@ -117,14 +117,14 @@ module _ (c : Config) (k : Kept) where
     -- a contact's state
     pub heeds-contact : fits c (stateOf c k) ≡ true → ((a : Answer) → portAfter (k .port) e a ≡ k .port) → (m : Contacted) {r : Outcome} → r ≡ m .outcome
         → makeOf c (stateOf c k .inner) e ≡ contactMade (stateOf c k .inner) m
-        → Heeds c e k (keptOf (k .core) (k .memory) (k .port) (m .words) (k .results) (k .fixed) (k .block) (k .area) (k .counts) (k .dropped) (m .changed) (k .taken)) (Ended r)
+        → Heeds c e k (keptOf (k .core) (k .memory) (k .port) (m .words) (k .results) (k .fixed) (k .block) (k .area) (k .counts) (k .dropped) (m .changed) (k .taken) (k .plans)) (Ended r)
     unfolding moves contactMade localMade quiet takenAfter
     heeds-contact b p m w z =
         heeds-made (contactMade (stateOf c k .inner) m) b z (ap Ended w) (rw p) (still c (k .area) (k .counts)) refl
 
   -- time moves the core and the port
   pub heeds-time : (ms : ℕ) {core : Core} {port : Port} → fits c (stateOf c k) ≡ true → core ≡ coreAfter (k .core) ms → port ≡ silentAfter (k .port) ms
-      → Heeds c (elapsed ms) k (keptOf core (k .memory) port (k .words) (k .results) (k .fixed) (k .block) (k .area) (k .counts) (k .dropped) (k .changed) (k .taken)) (Ended Done)
+      → Heeds c (elapsed ms) k (keptOf core (k .memory) port (k .words) (k .results) (k .fixed) (k .block) (k .area) (k .counts) (k .dropped) (k .changed) (k .taken) (k .plans)) (Ended Done)
   unfolding short makeOf elapsedMade quiet moves portAfter takenAfter
   heeds-time ms b x y =
       heeds-made (elapsed ms) refl (elapsedMade (stateOf c k .inner) ms) b refl refl (rw (x, y)) (still c (k .area) (k .counts)) refl
@@ -137,7 +137,7 @@ module _ (c : Config) (k : Kept) where
       → dropped ≡ droppedAfter (addedBy r (f .0) (sparedIn (k .memory) (f .0)) (recordChars (record { event = event; clock = k .core .clock }) vs)) (k .dropped)
       → Shifted c (addedBy r (f .0) (sparedIn (k .memory) (f .0)) (recordKept (record { event = event; clock = k .core .clock }) vs)) (k .area) (k .counts) area counts
       → core ≡ notedIn r (k .core)
-      → Heeds c (local (store f event vs)) k (keptOf core (k .memory) (k .port) (k .words) (k .results) (k .fixed) (k .block) area counts dropped (k .changed) (k .taken)) (Storing r)
+      → Heeds c (local (store f event vs)) k (keptOf core (k .memory) (k .port) (k .words) (k .results) (k .fixed) (k .block) area counts dropped (k .changed) (k .taken) (k .plans)) (Storing r)
   unfolding short makeOf localOf storeMade changedBy moves portAfter
   heeds-store f event vs {r} {area} b o fl d w x =
       let i : Inner = stateOf c k .inner in

@@ -161,7 +161,7 @@ module _ (x : Owned) (n : SpecialCalculation) (long : length (x .unit) ≡ unitL
       laid : left ≡ nextLaid (packed c) c k e
       unfolding nextLaid keptAs moves portAfter sampledMade areasSampled areaAfter countsAfter takenAfter
       laid =
-          (λ i. keptOf (k .core) (k .memory) (k .port) (k .words) (valuesAfter (k .results) (n .0) (sampled-is i)) (k .fixed) (k .block) (moved-is i) (k .counts) (k .dropped) (k .changed) (set (k .taken) p (length ws)))
+          (λ i. keptOf (k .core) (k .memory) (k .port) (k .words) (valuesAfter (k .results) (n .0) (sampled-is i)) (k .fixed) (k .block) (moved-is i) (k .counts) (k .dropped) (k .changed) (set (k .taken) p (length ws)) (k .plans))
           ∙ sym (λ i. keptAs (next-is i) (areaAfter (packed c) (change-is i) (k .counts) (k .area)) (countsAfter (change-is i) (k .counts)) (takenAfter (change-is i) (k .taken)))
 
       next-left : stateOf c left ≡ moves (k .port) e (sampledMade c (s .inner) (n .0))

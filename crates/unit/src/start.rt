@@ -15,7 +15,7 @@ fn zero(block: &mut [u8])
     }
 }
 
-// Day 1 of the clock and the configure bit: every other number of a fresh unit is 0.
+// Day 1 of the clock and the configure bit: every other number of a fresh unit is 0. Its plans are those of its empty tables.
 pub fn fresh(unit: &mut [u8; UNIT], block: &mut [u8], config: &[u8; CONFIG])
     ensures { λ _. ⌜ FreshPromise (now (config .entry)) (length (now (block .entry))) (now (unit .exit)) (now (block .exit)) ⌝ }
 {
@@ -23,5 +23,6 @@ pub fn fresh(unit: &mut [u8; UNIT], block: &mut [u8], config: &[u8; CONFIG])
     layout::begin(unit, config);
     layout::keep_clock(unit, 1, 0, 0, 0, 0);
     layout::keep_configure(unit, true);
+    tables::replan(unit);
     zero(block);
 }

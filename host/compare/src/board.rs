@@ -63,6 +63,7 @@ extern "C" {
     fn osturdam_valid(config: &[u8; CONFIG]) -> u8;
     fn osturdam_room(config: &[u8; CONFIG]) -> u64;
     fn osturdam_dropped(unit: &[u8; UNIT], file: u8) -> u16;
+    fn osturdam_replan(unit: &mut [u8; UNIT]);
     fn osturdam_fresh(
         unit: &mut [u8; UNIT], block: *mut u8, length: u64, config: &[u8; CONFIG]);
     fn osturdam_stretch(
@@ -233,6 +234,11 @@ impl Memory {
     /// How many samples of a place are in.
     pub fn taken(&self, place: usize) -> u16 {
         word_at(&self.chars, header::AT_TAKEN + 2 * place)
+    }
+
+    /// Scan plans made anew of the tables.
+    pub fn replan(&mut self) {
+        unsafe { osturdam_replan(&mut self.chars) }
     }
 
     /// How many records a file holds.

@@ -120,6 +120,7 @@ pub fn memory_of(config: &[u8; CONFIG], state: &State) -> Memory {
     for (file, held) in state.files.iter().enumerate() {
         made.lay(header::AT_COUNTS + file, &[held.len() as u8]);
     }
+    made.replan(); // the plans of a unit are always those of its tables
     made
 }
 

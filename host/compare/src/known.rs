@@ -170,3 +170,15 @@ pub fn releases(event: &Event, pair: &Pair, answer: &Answer) -> bool {
         && pair.before[MEMORY_MASTER] == master(event)
         && pair.before[MEMORY_QUANTITY] > 0
 }
+
+/// The table that a stretch asks for, by whose plan it is scanned.
+pub fn plan_of(event: &Event) -> Option<usize> {
+    let head = heard(event).get(2..4)?;
+    (head[0] == 0x0A).then(|| usize::from(head[1] & 0x0F))
+}
+
+/// How many numbers the parts of its plan have: those of ST1, of ST2 and its own.
+pub fn planned_parts(event: &Event, pair: &Pair) -> [u8; 3] {
+    let at = AT_PLANS + 16 + 6 * plan_of(event).unwrap_or(0);
+    [1, 3, 5].map(|part| pair.unit.memory.chars[at + part])
+}

@@ -11,10 +11,23 @@ use independent::{Answer, Sampled};
 type Known = fn(&Event, &Pair, &Answer) -> bool;
 
 /// What must have been seen.
-pub const SEEN: [(&str, Known); 103] = [
+pub const SEEN: [(&str, Known); 106] = [
     ("reply of 511 data characters", |_, _, a| a.sent == REPLY),
     ("table scan of 255 words", |_, p, a| {
         a.sent == REPLY - 1 && p.reply()[2] == 0x0A
+    }),
+    ("plans made anew by an EXECUTE", |e, p, a| {
+        scans(e, a, 0x20)
+            && heard(e)[3] == 0x31
+            && p.before[WRITE] == 1
+            && p.before[WRITE_ORDINAL] == 3
+    }),
+    ("table scan by a plan of three parts", |e, p, a| {
+        scans(e, a, 0x0A) && planned_parts(e, p).iter().all(|&many| many > 0)
+    }),
+    ("table scan too long by its plan", |e, p, a| {
+        a.outcome == TOO_LONG as u8
+            && plan_of(e).is_some_and(|k| p.unit.memory.chars[AT_PLANS + k] == TOO_LONG as u8)
     }),
     ("127 calculation values", |_, p, a| {
         a.sent == REPLY - 3 && p.reply()[2] == 0x03

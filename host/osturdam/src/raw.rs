@@ -26,6 +26,7 @@ extern "C" {
     fn osturdam_valid(config: *const [u8; CONFIG]) -> u8;
     fn osturdam_room(config: *const [u8; CONFIG]) -> u64;
     fn osturdam_dropped(unit: *const Chars, file: u8) -> u16;
+    fn osturdam_replan(unit: *mut Chars);
     fn osturdam_fresh(
         unit: *mut Chars, block: *mut u8, length: u64, config: *const [u8; CONFIG]);
     fn osturdam_stretch(
@@ -79,6 +80,11 @@ pub(crate) fn room(config: &Config) -> u64 {
 pub(crate) fn dropped(m: &Memory, file: u8) -> u16 {
     // SAFETY: above.
     unsafe { osturdam_dropped(&m.unit, file) }
+}
+
+pub(crate) fn replan(m: &mut Memory) {
+    // SAFETY: above.
+    unsafe { osturdam_replan(&mut m.unit) }
 }
 
 pub(crate) fn fresh(m: &mut Memory, config: &Config) {

@@ -39,7 +39,7 @@ impl Unit {
 
     /// The unit that was saved. Any characters may be here, and any number of them: one that is not in range, is cut short or was saved by a
     /// library of another layout is told by [`Outcome::NotConfigured`] at each event, and none changes it. Its configuration is the one that
-    /// it was saved with ([`Unit::config`]).
+    /// it was saved with ([`Unit::config`]), and its scan plans are made anew of its tables.
     ///
     /// ```
     /// use osturdam::{Outcome, Unit};
@@ -48,9 +48,12 @@ impl Unit {
     /// assert_eq!(worn.elapsed(1), Outcome::NotConfigured);
     /// ```
     pub fn from_bytes(bytes: &[u8]) -> Unit {
-        Unit {
-            memory: Memory::from_bytes(bytes),
+        let mut memory = Memory::from_bytes(bytes);
+        let layout = word_at(&memory.unit, header::AT_LAYOUT as usize);
+        if u32::from(layout) == header::LAYOUT {
+            raw::replan(&mut memory);
         }
+        Unit { memory }
     }
 
     /// The whole unit with its configuration, to be stored before a reply is sent: the same characters on every machine, and always as many
@@ -254,6 +257,14 @@ mod tests {
             assert_eq!(worn, before);
             assert_eq!(Unit::from_bytes(&worn.to_bytes()), worn);
         }
+    }
+
+    #[test]
+    fn plans_of_a_saved_unit_are_made_anew() {
+        let fresh = Unit::fresh(Config::new(1));
+        let mut worn = fresh.to_bytes();
+        worn[header::AT_PLANS as usize..header::UNIT as usize].fill(9);
+        assert_eq!(Unit::from_bytes(&worn), fresh);
     }
 
     #[test]

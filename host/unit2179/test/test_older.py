@@ -1,5 +1,5 @@
-"""State files and journals of versions 2 to 6: there were no means; before 6 of no contact it was known that it changed; before 5 no file was
-marked and none dropped a record, and before 4 each had 32 slots of 38 characters."""
+"""State files and journals of versions 2 to 7: there were no scan plans; before 7 there were no means; before 6 of no contact it was known
+that it changed; before 5 no file was marked and none dropped a record, and before 4 each had 32 slots of 38 characters."""
 import os
 import signal
 
@@ -11,10 +11,10 @@ FILES = {0: 16, 1: 1, 7: 3, 8: 1, 31: 2}  # a file's number, and how many values
 NEWEST = (0, 7)  # files that the configuration now lets keep the newest
 PACKED = sum(ROOM * (6 + 2 * values) for values in FILES.values())
 MANY = {0: 32, 1: 32, 7: 0, 8: 5, 31: 31}  # how many records each holds
-# of a version, with how many characters of records it has
-LAYOUTS = {3: (b'\1\0', RECORDS), 4: (b'\2\0', PACKED), 5: (b'\3\0', PACKED), 6: (b'\4\0', PACKED)}
+# the layout of a version, with how many characters of records it has
+LAYOUTS = {3: (b'\1\0', RECORDS), 4: (b'\2\0', PACKED), 5: (b'\3\0', PACKED), 6: (b'\4\0', PACKED), 7: (b'\5\0', PACKED)}
 # the parts that came with a version
-ADDED = {5: ('config.oldest', 'dropped'), 6: ('changed',), 7: ('config.means', 'config.sampled', 'config.windows', 'taken')}
+ADDED = {5: ('config.oldest', 'dropped'), 6: ('changed',), 7: ('config.means', 'config.sampled', 'config.windows', 'taken'), 8: ('plans',)}
 
 
 def size(file):
@@ -88,7 +88,7 @@ class Older(KeptTest):
     def kept_as_now(self):
         parts = dict(parts_of(self.state()))
         self.assertTrue(image_of(parts.items()) == self.state())
-        self.assertEqual((parts['layout'], len(parts['records']), parts['dropped']), (b'\5\0', PACKED, bytes(64)))
+        self.assertEqual((parts['layout'], len(parts['records']), parts['dropped']), (b'\6\0', PACKED, bytes(64)))
         self.assertEqual((parts['changed'], parts['config.windows'], parts['taken']), (bytes(32), bytes(32), bytes(32)))
         self.assertEqual([f for f in FILES if not parts['config.oldest'][f]], list(NEWEST))
 
@@ -194,6 +194,20 @@ class BroughtUnsampled(Brought):
         self.refused_for(image_of(parts, self.version), 'another configuration')
 
 
+class BroughtUnplanned(BroughtUnsampled):
+    version = 7
+
+    def test_a_table_is_scanned_by_the_plan_that_is_made_of_it(self):
+        fixed = bytearray(528)
+        fixed[16:19] = b'\0\1\x30'  # table 1 has the number 30h
+        words = bytearray(512)
+        words[0x60:0x62] = b'\x34\x12'
+        self.put_state(image_of(self.older(fixed=bytes(fixed), words=bytes(words)), self.version))
+        unit, wire = self.begin()
+        self.assertEqual(wire.ask(frame(A, UNIT, 0x0A, 0x41)).data, b'\x34\x12')
+        unit.end(signal.SIGKILL)
+
+
 class Before(Older):
     def test_a_file_of_version_2_is_read(self):
         parts = [part for part in self.older() if not part[0].startswith('journal.')]
@@ -207,12 +221,12 @@ class Before(Older):
 class Refused(Older):
     def test_it_is_never_misread(self):
         good = self.older()
-        for version in (4, 5, 6, 7):
+        for version in (4, 5, 6, 7, 8):
             self.refused_for(image_of(good, version), 'the layout 1')
         self.refused_for(image_of(self.older(layout=b'\2\0'), 3), 'the layout 2')
         self.refused_for(image_of(self.older(records=bytes(PACKED)), 3), "'records' has not 38912 ")
         self.refused_for(image_of(self.older(layout=b'\2\0'), 4), f"'records' has not {PACKED} ")
-        for version, layout in ((7, 4), (6, 3), (6, 5), (5, 2), (5, 4), (4, 3), (3, 3)):
+        for version, layout in ((8, 5), (7, 4), (7, 6), (6, 3), (6, 5), (5, 2), (5, 4), (4, 3), (3, 3)):
             self.refused_for(image_of(self.older(layout=bytes([layout, 0])), version), f'the layout {layout}')
         self.config = SAMPLE
         self.refused_for(image_of(good, 3), 'another configuration')

@@ -21,7 +21,7 @@ class Start(LiveTest):
 
     def test_its_version_is_told(self):
         done = subprocess.run([*RUN, '--version'], capture_output=True, text=True, timeout=10)
-        self.assertEqual((done.returncode, done.stdout), (0, 'unit2179: interface 7 of the library, units of layout 5, state files of version 7\n'))
+        self.assertEqual((done.returncode, done.stdout), (0, 'unit2179: interface 8 of the library, units of layout 6, state files of version 8\n'))
 
     def test_without_options_the_bench_unit_answers_on_a_pseudo_terminal(self):
         process = subprocess.Popen(RUN, cwd=self.folder, stdin=subprocess.DEVNULL, stdout=subprocess.PIPE, text=True)

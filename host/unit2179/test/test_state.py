@@ -32,7 +32,7 @@ def parts_of(image):
     return found
 
 
-def image_of(parts, version=7):
+def image_of(parts, version=8):
     """A state file of parts, with the length and the check that it should have."""
     body = b''.join(name.encode().ljust(NAME, b'\0') + len(chars).to_bytes(4, 'little') + chars for name, chars in parts)
     image = b'unit2179' + version.to_bytes(2, 'little') + (TITLE + len(body) + CHECK).to_bytes(4, 'little') + body

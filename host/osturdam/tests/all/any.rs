@@ -46,6 +46,9 @@ fn events(unit: &mut Unit, chance: &mut Chance) -> [Outcome; 6] {
     ]
 }
 
+/// Where the scan plans lie.
+const PLANS: std::ops::Range<usize> = 2698..2810;
+
 #[test]
 fn any_kept_bytes_are_judged_and_left() {
     let mut chance = Chance(2179);
@@ -54,6 +57,10 @@ fn any_kept_bytes_are_judged_and_left() {
         let own = [0, Config::BYTES][round % 2];
         bytes[own..].fill_with(|| chance.next() as u8);
         let mut unit = Unit::from_bytes(&bytes);
+        if own > 0 {
+            // of this layout: a unit that goes on has its plans made anew
+            bytes[PLANS].copy_from_slice(&unit.to_bytes()[PLANS]);
+        }
         assert_eq!(events(&mut unit, &mut chance), [Outcome::NotConfigured; 6]);
         let values: Vec<u16> = (0..chance.next() % 40).map(|n| n as u16).collect();
         assert_eq!(

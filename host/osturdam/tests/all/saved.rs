@@ -164,7 +164,7 @@ fn a_unit_has_no_more_room_than_it_asks_for() {
 #[test]
 fn one_that_is_cut_short_is_refused_and_left() {
     let whole = of_many_lengths().to_bytes();
-    for length in [0, 1, 2698, 2698 + 512, whole.len() - 1] {
+    for length in [0, 1, 2810, 2810 + 512, whole.len() - 1] {
         let mut cut = Unit::from_bytes(&whole[..length]);
         let before = cut.to_bytes();
         assert_eq!(cut.elapsed(1), Outcome::NotConfigured, "{length} of them");

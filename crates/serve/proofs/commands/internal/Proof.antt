@@ -14,7 +14,7 @@ use Rattle.blocks.proofs.MeansLaws.{executed-means}
 use Rattle.layout.specs.Unit.{configIn}
 use Rattle.layout.proofs.UnitLaws.{unit-long}
 use Rattle.layout.specs.Kept.{innerBy}
-use Rattle.serve.proofs.CommandLaws.{internal-initial, internal-reset, internal-write, internal-execute, internal-time, internal-unknown, acts-initial, acts-changed, acts-written, acts-executed, acts-timed, acts-refused, unshifted, unshifted-words, unshifted-fixed, unshifted-numbers, unshifted-then, numbers-kept, numbers-by-words, numbers-by-fixed, words-left, fixed-left, reset-left}
+use Rattle.serve.proofs.CommandLaws.{internal-initial, internal-reset, internal-write, internal-execute, internal-time, internal-unknown, acts-initial, acts-changed, acts-written, acts-executed, acts-timed, acts-refused, unshifted, unshifted-words, unshifted-fixed, unshifted-plans, unshifted-numbers, unshifted-then, numbers-kept, numbers-by-words, numbers-by-fixed, numbers-by-plans, words-left, plans-means, plans-left, reset-left}
 use Rattle.serve.proofs.TameLaws.{reset-tame, write-bare, execute-bare, set-time-bare}
 use borrow.Author.Needs.{needs}
 use Rattle.serve.proofs.commands.internal.Statement.{statement}
@@ -46,6 +46,9 @@ write-kept-requires-2 c κs = search needs
 
 execute-requires : tie.Need-execute-requires
 execute-requires c κs = search needs
+
+planned-requires : tie.Need-planned-requires
+planned-requires c κs = search needs
 
 executed-requires : tie.Need-executed-requires
 executed-requires c κs = search needs
@@ -108,18 +111,21 @@ same-length-2 c = search needs
 returns-4 : tie.Need-returns-4
 unfolding coreIn
 returns-4 c =
-    let s = c .before .before .before .before .before .before .before .before .before .before .before .before .before .before .before .before in
+    let s = c .before .before .before .before .before .before .before .before .before .before .before .before .before .before .before .before .before .before in
     let u = s .args .unit .now in
     let q = asked (s .args .frame) (s .args .body .now) in
-    let done = rw (c .before .before .before .before .before .before .before .write-kept2 .ensures) at (c .before .before .before .before .execute .ensures) in
+    let done = rw (c .before .before .before .before .before .before .before .before .before .write-kept2 .ensures) at (c .before .before .before .before .before .before .execute .ensures) in
     let w = executed-means u _ (s .args .block .now) _ _ q _ done in
-    let same = numbers-by-fixed u _ (w .0) in
+    let b = c .before .before .before .before .before .before .execute .result .configures in
+    let p = plans-means _ _ b (w .1 ∙ unit-long u (c .before .before .before .before .before .before .before .before .before .before .before .before .before .told-long-arg2 .given .0)) (c .before .before .planned .ensures) in
+    let same = numbers-by-plans _ _ (p .0) ∙ numbers-by-fixed u _ (w .0) in
     let after = c .executed .ensures in (
       λ ss fs stands.
           let i = innerBy (s .args .unit .now) (s .args .block .now) ss fs in
-          acts-executed i _ (execute-bare _ _ _ q) (internal-execute (configIn u) i (s .args .lag) q (c .before .before .before .before .before .before .before .before .before .match .keys4)) done refl (after .0)
-          (rw same at (after .1 .0 (rw same stands))) (numbers-kept _ _ _ _ (after .1 .1) ∙ fixed-left u _ _ _ (w .0)),
-      unshifted-then u _ _ (unshifted-fixed u _ (w .0) (w .1)) (unshifted-numbers _ _ (after .1 .1)),
+          acts-executed i (configIn u .inputs) _ (execute-bare _ _ _ q) (internal-execute (configIn u) i (s .args .lag) q (c .before .before .before .before .before .before .before .before .before .before .before .match .keys4)) done refl (after .0)
+          (rw same at (after .1 .0 (rw same stands)))
+          (numbers-kept _ _ _ _ (after .1 .1) ∙ plans-left u _ _ _ _ b (w .0) (p .0)),
+      unshifted-then u _ _ (unshifted-then u _ _ (unshifted-fixed u _ (w .0) (w .1)) (unshifted-plans _ _ (p .0) (p .1))) (unshifted-numbers _ _ (after .1 .1)),
     )
 
 returns-5 : tie.Need-returns-5
@@ -160,6 +166,7 @@ internal-spec =
     written-requires
     write-kept-requires-2
     execute-requires
+    planned-requires
     executed-requires
     clock-in-requires
     set-time-requires

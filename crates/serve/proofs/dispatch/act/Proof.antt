@@ -72,8 +72,8 @@ serve-requires c κs = search needs
 scanned-requires-3 : tie.Need-scanned-requires-3
 scanned-requires-3 c κs = search needs
 
-scan-requires-3 : tie.Need-scan-requires-3
-scan-requires-3 c κs = search needs
+planned-requires : tie.Need-planned-requires
+planned-requires c κs = search needs
 
 scanned-requires-4 : tie.Need-scanned-requires-4
 scanned-requires-4 c κs = search needs
@@ -167,7 +167,7 @@ returns-5 c =
     let b = sym (c .before .before .before .before .before .before .before .before .breaks-off .ensures ∙ ap (λ (h : Hold). breaks h q) (c .before .before .before .before .before .before .before .before .before .hold-kept .ensures)) ∙ c .before .before .before .before .before .before .before .if1 .left in
     let z = step-tables (configIn u) i (s .args .lag) q b (c .before .before .before .before .before .before .match .keys4) in (
       λ y stands.
-          acted-still (alone-stays i _ z) (acts-scan i _ (tables-tame _ _ _ q) z (fills-as (sym (in-room _ _ (s .pre .0))) (c .before .before .before .scan3 .ensures)) (c .scanned4 .ensures) (readable-written ks stands) refl),
+          acted-still (alone-stays i _ z) (acts-scan i _ (tables-tame _ _ _ q) z (fills-as (sym (in-room _ _ (s .pre .0))) (c .before .before .before .planned .ensures)) (c .scanned4 .ensures) (readable-written ks stands) refl),
       steady-same u,
     )
 
@@ -265,7 +265,7 @@ act-spec =
     scanned-requires-2
     serve-requires
     scanned-requires-3
-    scan-requires-3
+    planned-requires
     scanned-requires-4
     hold-kept-requires-2
     control-requires
