@@ -1,4 +1,6 @@
 // The check word of a list of characters from a starting value: folded to two characters, which the table works (document 01, "Frames"; paper 1.1.7).
+#![tactic(auto)]
+
 mod reading;
 mod table;
 

@@ -4,7 +4,6 @@ use Prim.Native.Nat.{ℕ, ◌+◌}
 use mathlib.Core.Bool.{Bool, true, false, cond}
 use native.Mathlib.Omega.{arith}
 use Rattle.model.specs.Control.{lives, aged_of}
-use Rattle.model.specs.declared.Age.{Age}
 use Rattle.model.specs.declared.Age.TheVariants.{Lives, Over}
 
 came : (b : Bool) (m n : ℕ) → cond b (Lives m) Over ≡ Lives n → (b ≡ true) × (n ≡ m)

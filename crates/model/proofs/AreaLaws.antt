@@ -24,7 +24,7 @@ use Rattle.model.specs.Blocks.{Executed, known, ordinal_start, block_of, not_exe
 use Rattle.model.specs.declared.Outcome.{Outcome}
 use Rattle.model.specs.declared.Pending.{Pending}
 use Rattle.model.specs.declared.Pending.TheVariants.{NoWrite, Waits}
-use Rattle.model.proofs.Conditions.{by_cond, by_bool, and_right, false-true}
+use Rattle.model.proofs.Conditions.{by_cond, by_bool, and_right}
 
 pub record LeavesValues (a b : Areas) : Type 0 where
   pub words : length b.words ≡ length a.words

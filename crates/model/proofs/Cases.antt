@@ -2,7 +2,7 @@
 -- its table tells.
 -- Assumes nothing.
 use mathlib.Core.Path.{◌≡◌, refl}
-use Prim.Native.Nat.{ℕ, zero, suc, ◌+◌}
+use Prim.Native.Nat.{ℕ, zero, suc}
 use mathlib.Core.List.{List, [], ◌∷◌, ◌++◌}
 use mathlib.Core.Bool.{cond}
 use lib.ListN.{length, get_or, take, set, replicate}
@@ -13,20 +13,7 @@ use Rattle.checkword.specs.Check.{bit_step, bit_steps, char_step, check_from, ch
 use Rattle.model.specs.Frame.{unit_of, master_of, whole, checked, frame_in, commands, paired, heard_of, request_in, with_check, frame_chars, head_chars, reply_chars}
 use Rattle.model.specs.Outcome.{damaged, reply_function, answer_number}
 use Rattle.model.specs.Config.{Config, has, within, two_bit, accumulator, none_in, file_valid, window_at, mean_valid, means_valid, valid_of, has_file, keeps_oldest, has_calculation, size_of}
-use Rattle.model.specs.State.{
-  Areas,
-  History,
-  Inner,
-  State,
-  held_in,
-  store_in,
-  cut_in,
-  fresh_core,
-  fresh_areas,
-  fresh_history,
-  fresh_port,
-  fresh_of,
-}
+use Rattle.model.specs.State.{held_in, store_in, cut_in, fresh_core, fresh_areas, fresh_history, fresh_port, fresh_of}
 use Rattle.model.specs.Change.{applied, dropped_after, added_by, changed_by}
 use Rattle.model.specs.Scan.{counts, with_no_data}
 use Rattle.model.specs.Inputs.{unreserved, chosen, word_of, inputs_of, has_accumulator, pulses_of}

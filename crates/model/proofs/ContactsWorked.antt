@@ -1,17 +1,16 @@
 -- Worked runs of contacts: what replies tell of them, and what clears it. Assumes nothing.
 use mathlib.Core.Path.{◌≡◌, refl}
-use Prim.Native.Nat.{ℕ, zero, suc, ◌+◌}
+use Prim.Native.Nat.{ℕ}
 use mathlib.Core.List.{List, [], ◌∷◌, ◌++◌}
-use mathlib.Core.Bool.{cond}
-use lib.ListN.{length, get_or, take, set, replicate}
+use lib.ListN.{set, replicate}
 use Rattle.chars.specs.Put.{put, part}
 use Rattle.chars.specs.Word.{word, value, word_at}
 use Rattle.chars.specs.Gather.{gather, up_from, every}
-use Rattle.checkword.specs.Check.{bit_step, bit_steps, char_step, check_from, check_of}
+use Rattle.checkword.specs.Check.{bit_step, bit_steps, char_step, check_from}
 use Rattle.model.specs.Frame.{unit_of, master_of, whole, checked, frame_in, commands, paired, heard_of, request_in, with_check, frame_chars, head_chars, reply_chars}
 use Rattle.model.specs.Outcome.{damaged, reply_function, answer_number}
 use Rattle.model.specs.Config.{Config, has, within, two_bit, accumulator, none_in, file_valid, window_at, mean_valid, means_valid, valid_of, has_file, keeps_oldest, has_calculation, size_of}
-use Rattle.model.specs.State.{Areas, History, Inner, State, held_in, store_in, cut_in, fresh_core, fresh_areas, fresh_history, fresh_port, fresh_of}
+use Rattle.model.specs.State.{held_in, store_in, cut_in, fresh_core, fresh_areas, fresh_history, fresh_port, fresh_of}
 use Rattle.model.specs.Change.{applied, dropped_after, added_by, changed_by}
 use Rattle.model.specs.Scan.{counts, with_no_data}
 use Rattle.model.specs.Inputs.{unreserved, chosen, word_of, inputs_of, has_accumulator, pulses_of, settable, set_word_of}
@@ -22,13 +21,11 @@ use Rattle.model.specs.Blocks.{known, ordinal_start, block_of, reaches, waits_fo
 use Rattle.model.specs.Clock.{bcd, from_bcd, digits, clock_fits, time_in, digits_fit, time_fits, set_time_of, time_of, clock_at, clock_after}
 use Rattle.model.specs.History.{acknowledges, dumps, file_of, flat, history_chars, freed_for, most_of, told_from, tell_of, history_of, record_chars, spared_in, full_as, stored_when, stored_as}
 use Rattle.model.specs.Fits.{master_fits, hold_fits, write_fits, core_fits, givable, reply_fits, memory_fits, file_fits, history_fits, samples_fit, areas_fit, port_fits, fits}
-use Rattle.model.specs.Event.{pulses, store, Event, elapsed, local, set_word, contact}
+use Rattle.model.specs.Event.{Event, local, set_word, contact}
 use Rattle.model.specs.Step.{controlled, timed, written, executed, scanned, internal_of, other_of, status_of, sent_as, answered, quiet, settled, finished, alone, telling, internal_step, step_of, areas_left, served, framed, broadcast_of, broadcast_made, followed, broken_off, judged, core_after, elapsed_made, local_made, word_made, noted_in, store_made, local_of, make_of, contact_made}
 use Rattle.model.specs.Port.{mark_number, port_status, sent_chars, mark_after, silent_after, port_heard, port_after}
 use Rattle.model.specs.Run.{short, turned_away, shows, moves, decided, result_of, next_of, after_from, after}
 use Rattle.model.specs.Bench.{bench_config, hears}
-use Rattle.model.specs.declared.Action.{Action}
-use Rattle.model.specs.declared.Action.TheVariants.{Rest, Operate}
 use Rattle.model.specs.Tables.{stands_at, table_at, end_of, start_of, table_of, sendable, word_in, send_of, scan_numbers, table_scan, table_area, table_asked}
 use Rattle.model.specs.Plans.{outcome_for, part_of, parts_of, plans_of, empty_plans, planned, plans_fit, planned_part, planned_numbers, planned_scan, planned_of}
 

@@ -8,7 +8,7 @@ use native.Mathlib.Omega.{arith}
 use lib.IntN.{ℤ, pos, negsuc, nat_abs, ◌+ℤ◌, +ℤ_assoc, +ℤ_idl, +ℤ_idr}
 use lib.ListN.{length}
 use lib.Pow.{pow-add, pow_pos, pow_mono, shl_lt}
-use lib.Dec.{T, eqb, leb, ltb}
+use lib.Dec.{T, eqb, ltb}
 use borrow.Author.Tests.{ne_eqb, ltb-true, ltb-false, lt-ltb, le-ltb, leb-true, eqb-true}
 use lib.Ieee.{Float, nan, inf, fin, binary32, up, down, unlike, round, sum, add, div, of_int, is_nan}
 use lib.Ieee.Fits.{up_pos, down_pos}

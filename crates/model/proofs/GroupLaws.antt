@@ -16,7 +16,6 @@ use Rattle.model.specs.Inputs.{Changed, settable, has_accumulator, set_word_of, 
 use Rattle.model.specs.Contacts.{bit_in, with_bit, word_after, changed_after, asks_for, groups_carried, anew, unmarked, untallied}
 use Rattle.model.specs.Blocks.{Executed}
 use Rattle.model.specs.Control.{breaks}
-use Rattle.model.specs.Event.{contact}
 use Rattle.model.specs.Step.{Step, with_words, scanned, changed, controlled, timed, written, executed, internal_of, return_of, other_of, Stepped, alone, broken_off, telling, initial_step, internal_step, step_of, broadcast_of}
 use Rattle.model.specs.Tally.{Tally, given, started_over, is_in}
 use Rattle.model.proofs.Conditions.{by_cond, by_bool, and_left, and_right, false-true}

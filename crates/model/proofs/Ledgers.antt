@@ -276,12 +276,12 @@ module _ (c : Config) (g : ℕ) where
   fresh_tallied = record { many = refl; standing = sym (held_none 32 g); counted = none-counted 32 g }
 
   -- what is stored is in the ledger
-  stored_from : (l : Latest) (n : ℕ) (xs : List Lot) (es : List Entry) → lots_stored (ledger_from c l n xs es g) ≡ lots_stored xs ++ stored_in es g
+  stored_from : (es : List Entry) (l : Latest) (n : ℕ) (xs : List Lot) → lots_stored (ledger_from c l n xs es g) ≡ lots_stored xs ++ stored_in es g
   unfolding ledger_from stored_in
-  stored_from l n xs [] = sym (append-nil (lots_stored xs))
-  stored_from l n xs (x ∷ es) =
+  stored_from [] l n xs = sym (append-nil (lots_stored xs))
+  stored_from (x ∷ es) l n xs =
       let z = stored_by x.event x.clock x.result.answer g in
-      stored_from _ _ _ es ∙ ap (λ (k : List (List ℕ)). k ++ stored_in es g) (after-stored xs _ z (drops_by x.event x.result.answer g))
+      stored_from es _ _ _ ∙ ap (λ (k : List (List ℕ)). k ++ stored_in es g) (after-stored xs _ z (drops_by x.event x.result.answer g))
       ∙ append_assoc (lots_stored xs) z (stored_in es g)
 
   -- THE THEOREM
@@ -289,7 +289,7 @@ module _ (c : Config) (g : ℕ) where
   unfolding lots_stored
   ledger es =
       let k = tallied_from (fresh_of c) nobody es (fresh_matches c) (fresh_formed c) [] 0 [] fresh_tallied in
-      record { stored = stored_from nobody 0 [] (trace c es); left = k.1.standing; counted = k.1.counted }
+      record { stored = stored_from (trace c es) nobody 0 []; left = k.1.standing; counted = k.1.counted }
 
   -- ---- a file that keeps the oldest drops nothing
 

@@ -10,7 +10,7 @@ use lib.Dec.{eqb, ltb}
 use native.Mathlib.Nat.{zero-add, suc-add}
 use native.Mathlib.Omega.{arith}
 use borrow.Author.Tests.{leb-true, ltb-true, ltb-false, eqb-true, eqb-false}
-use Rattle.chars.specs.Put.{put, part}
+use Rattle.chars.specs.Put.{part}
 use Rattle.chars.specs.Gather.{every}
 use Rattle.chars.proofs.PutLaws.{put_one, part-put-before, part-put-after}
 use Rattle.model.specs.Config.{has}

@@ -5,7 +5,7 @@ use mathlib.Core.Logic.{◌⊎◌, inl, inr}
 use Prim.Native.Nat.{ℕ, ◌+◌, ◌<◌, ◌≤◌}
 use native.Mathlib.Omega.{arith}
 use mathlib.Core.List.{List}
-use mathlib.Core.Bool.{true, false, and_false}
+use mathlib.Core.Bool.{true, false, and-false}
 use lib.ListN.{length, get_or, take, drop, length-drop}
 use lib.Seq.{get_or-take, get_or-drop, length-take-le}
 use lib.Dec.{eqb}
@@ -125,7 +125,7 @@ module _ (s : List ℕ) (w x : Frame) (p : WholePair s w x) where
   -- so it is no whole frame
   pair_unwhole : whole s ≡ false
   unfolding whole
-  pair_unwhole = let n = pair-counts in simp (ne_eqb (length s) (8 + word_at s 4) (λ e. omega arith), and_false)
+  pair_unwhole = let n = pair-counts in simp (ne_eqb (length s) (8 + word_at s 4) (λ e. omega arith), and-false)
 
   pub pair-heard : heard_of s ≡ Pair w x
   unfolding heard_of paired

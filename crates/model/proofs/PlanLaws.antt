@@ -6,7 +6,7 @@ use native.Mathlib.Decide.{dec_lt}
 use native.Mathlib.Nat.{mod-eq_of_lt, mul-le-mul_left}
 use native.Mathlib.Numerals.{add-one}
 use mathlib.Core.List.{List, [], ◌∷◌, ◌++◌}
-use mathlib.Core.Bool.{Bool, true, false, cond, ◌&&◌}
+use mathlib.Core.Bool.{true, cond, ◌&&◌}
 use lib.ListN.{length, get_or, take, replicate, length-take, length-append, get_or-append}
 use lib.Seq.{take_all, take-append_seam, get_or-append-add}
 use lib.Dec.{eqb, ltb}
@@ -22,7 +22,7 @@ use Rattle.model.specs.Tables.{stands_at, table_at, end_of, start_of, table_of, 
 use Rattle.model.specs.Plans.{outcome_for, part_of, parts_of, plans_of, empty_plans, planned, plans_fit, planned_part, planned_numbers, planned_scan, planned_of}
 use Rattle.model.specs.declared.Outcome.TheVariants.{NotValid, TooLong}
 use Rattle.model.specs.declared.Table.{Table}
-use Rattle.model.proofs.Conditions.{by_cond, by_bool, and_left, and_right, and_both}
+use Rattle.model.proofs.Conditions.{by_cond, by_bool, and_left, and_both}
 
 -- ---- what a run of numbers gives, each as many characters, is found by its place
 

@@ -1,20 +1,19 @@
 -- In every run from a fresh unit the plans are those of the tables: each event leaves both, or makes the plans anew. Assumes nothing.
 use Prim.Native.Nat.{ℕ}
-use mathlib.Core.Path.{◌≡◌, refl, sym, ap, ◌∙◌}
+use mathlib.Core.Path.{◌≡◌, sym, ap, ◌∙◌}
 use mathlib.Core.List.{List}
 use lib.ListN.{get_or}
 use Rattle.model.specs.Config.{Config}
-use Rattle.model.specs.Frame.{Request}
 use Rattle.model.specs.State.{Areas, State, fresh_areas, fresh_of}
-use Rattle.model.specs.Tables.{table_area, tables_of}
+use Rattle.model.specs.Tables.{table_area}
 use Rattle.model.specs.Plans.{plans_of, planned_numbers, planned_of}
 use Rattle.model.specs.Means.{areas_sampled}
 use Rattle.model.specs.Event.{Event}
 use Rattle.model.specs.Step.{make_of}
-use Rattle.model.specs.Run.{moves, next_of, after}
+use Rattle.model.specs.Run.{moves, after}
 use Rattle.model.specs.Planned.{replanned, PlansHeld}
 use Rattle.model.proofs.AreaLaws.{Replans, stay, made}
-use Rattle.model.proofs.Parts.{Parts, InnerHas, Lasts, make_has}
+use Rattle.model.proofs.Parts.{Parts, Lasts, make_has}
 use Rattle.model.proofs.PlanLaws.{plans-empty, area-most, planned-carried, planned_tables}
 use Rattle.model.proofs.Runs.{by_next, by_run}
 

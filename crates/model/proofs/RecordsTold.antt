@@ -6,7 +6,7 @@ use mathlib.Core.Bool.{Bool, true}
 use lib.ListN.{take}
 use native.Mathlib.Omega.{arith}
 use Rattle.model.specs.Config.{Config, valid_of}
-use Rattle.model.specs.State.{Files, History, State, fresh_of, held_in}
+use Rattle.model.specs.State.{Files, fresh_of, held_in}
 use Rattle.model.specs.History.{history_chars}
 use Rattle.model.specs.Event.{Event}
 use Rattle.model.specs.Run.{Entry, entry_of, trace_from, after, trace}

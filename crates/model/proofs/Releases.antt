@@ -26,8 +26,6 @@ use Rattle.model.specs.declared.Outcome.{Outcome}
 use Rattle.model.specs.declared.Outcome.TheVariants.{Unknown, WrongCount, NotValid, NothingAgain, OtherUnit}
 use Rattle.model.specs.declared.Answer.{Answer}
 use Rattle.model.specs.declared.Answer.TheVariants.{Ended}
-use Rattle.model.specs.declared.Heard.{Heard}
-use Rattle.model.specs.declared.Heard.TheVariants.{Broken, Wrong, Whole, Pair}
 use Rattle.model.specs.declared.Master.{Master}
 use Rattle.model.specs.declared.Mark.{Mark}
 use Rattle.model.specs.declared.Core.{Core}

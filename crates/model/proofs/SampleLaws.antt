@@ -1,16 +1,16 @@
 -- The samples of the places, one of which takes another; and the calculations that are equipped now. Assumes nothing.
-use Prim.Native.Nat.{ℕ, zero, suc, ◌+◌, ◌-◌, ◌≤◌, ◌<◌, min}
-use mathlib.Core.Path.{◌≡◌, refl, sym, ap, ◌∙◌}
-use mathlib.Core.List.{List, [], ◌∷◌, ◌++◌}
-use mathlib.Core.Bool.{Bool, true, false, cond, not, ◌&&◌, ◌||◌}
-use lib.ListN.{length, get_or, set, take, drop, replicate, length-append, length-drop, length-set, get_or-replicate, get_or-eq_default, length-replicate}
+use Prim.Native.Nat.{ℕ, ◌+◌, ◌-◌, min}
+use mathlib.Core.Path.{◌≡◌, refl, sym, ◌∙◌}
+use mathlib.Core.List.{List, []}
+use mathlib.Core.Bool.{true}
+use lib.ListN.{length, get_or, set, replicate, length-append, length-drop, get_or-replicate, get_or-eq_default, length-replicate}
 use lib.Seq.{get_or-set_same, get_or-set_other, set_out}
-use lib.Dec.{eqb, leb, ltb}
+use lib.Dec.{leb}
 use native.Mathlib.Omega.{arith}
 use native.Mathlib.Decide.{dec_lt}
-use borrow.Author.Tests.{ltb-true, leb-true, le-leb}
+use borrow.Author.Tests.{le-leb}
 use Rattle.model.specs.Limits.{most_means}
-use Rattle.model.specs.Config.{Config, analog_at, window_at}
+use Rattle.model.specs.Config.{Config, window_at}
 use Rattle.model.specs.State.{Areas}
 use Rattle.model.specs.Means.{samples_at, last_of, taken_at}
 use Rattle.model.specs.Fits.{samples_fit}

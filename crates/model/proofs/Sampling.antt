@@ -1,37 +1,35 @@
 -- In every run the samples kept are the last that were taken, and the value of a mean is the mean of these, exactly. Assumes nothing.
 use Prim.Native.Nat.{ℕ, zero, suc, ◌+◌, ◌-◌, ◌≤◌, ◌<◌, min}
-use mathlib.Core.Path.{◌≡◌, refl, sym, ap, ◌∙◌, subst}
+use mathlib.Core.Path.{◌≡◌, refl, sym, ap, ◌∙◌}
 use mathlib.Core.List.{List, [], ◌∷◌, ◌++◌, append-nil, append_assoc}
-use mathlib.Core.Bool.{Bool, true, false, cond, not, ◌&&◌, ◌||◌}
+use mathlib.Core.Bool.{Bool, true, false, not}
 use lib.ListN.{length, get_or, set, take, drop, replicate, length-append, length-drop, length-set, get_or-replicate}
 use lib.Seq.{get_or-set_same, get_or-set_other, drop-append-le, drop-drop, drop-nil, get_or-take}
 use lib.Dec.{eqb, leb, ltb}
 use lib.Ieee.{binary32, to_bits}
 use native.Mathlib.Omega.{arith}
 use native.Mathlib.Decide.{dec_lt}
-use borrow.Author.Tests.{ltb-true, ltb-false, lt-ltb, le-ltb, leb-true, eqb-true, eqb-false, eq-eqb, ne_eqb, not-true, not-false}
-use Rattle.chars.specs.Word.{value}
+use borrow.Author.Tests.{ltb-true, ltb-false, lt-ltb, le-ltb, eqb-true, eqb-false, eq-eqb, ne_eqb, not-true}
 use Rattle.chars.specs.Gather.{up_from, every}
 use Rattle.model.specs.Limits.{most_means}
 use Rattle.model.specs.Config.{Config, has, has_analog, has_calculation, none_in, file_valid, number_at, analog_at, window_at, first_of, names, place_of, is_mean, is_power, mean_valid, means_valid, valid_of}
 use Rattle.model.specs.State.{Areas, State, Inner, fresh_areas, fresh_of}
-use Rattle.model.specs.Means.{sum_of, mean_of, samples_at, waits, struck_at, struck_to, equipped_now, value_settable, last_of, taken_at, sampled_of, sampled_for, values_after, areas_sampled, MeanIs}
+use Rattle.model.specs.Means.{mean_of, samples_at, waits, struck_at, struck_to, equipped_now, value_settable, last_of, taken_at, sampled_of, sampled_for, values_after, areas_sampled}
 use Rattle.model.specs.Calculations.{value_of, missing_of, set_value_of}
 use Rattle.model.specs.Inputs.{Changed}
-use Rattle.model.specs.Fits.{fits, samples_fit}
+use Rattle.model.specs.Fits.{fits}
 use Rattle.model.specs.Formed.{AllGiven, Formed}
 use Rattle.model.specs.Event.{Local, set_word, set_value, pulses, store, contact, sample, Event, stretch, elapsed, local}
 use Rattle.model.specs.Step.{with_values, quiet, local_made, value_made, sampled_made, sample_made, local_of, make_of}
-use Rattle.model.specs.Run.{short, moves, decided, next_of, after_from, after}
+use Rattle.model.specs.Run.{short, moves, next_of, after_from, after}
 use Rattle.model.specs.Sampled.{taken_locally, taken_by, taken_from, Waiting, Standing, Demands}
 use Rattle.model.specs.declared.SpecialCalculation.{SpecialCalculation}
 use Rattle.model.specs.declared.Sampled.{Sampled}
 use Rattle.model.specs.declared.Sampled.TheVariants.{Ready, NotReady}
-use Rattle.model.proofs.Conditions.{by_cond, by_bool, by_eqb, and_left, and_right, and_both, or_cases, false-true, every-up_from}
+use Rattle.model.proofs.Conditions.{by_cond, by_bool, by_eqb, and_left, and_right, false-true, every-up_from}
 use Rattle.model.proofs.Exact.{first_passes, mean_exact}
-use Rattle.model.proofs.AreaLaws.{LeavesValues}
-use Rattle.model.proofs.SampleLaws.{at_set, length_last, length_taken}
-use Rattle.model.proofs.Parts.{Parts, InnerHas, Lasts, make_has}
+use Rattle.model.proofs.SampleLaws.{at_set, length_last}
+use Rattle.model.proofs.Parts.{Parts, Lasts, make_has}
 use Rattle.model.proofs.Runs.{by_next}
 use Rattle.model.proofs.TurnedAway.{decided_works}
 use Rattle.model.proofs.Shape.{fresh_formed, step_formed}

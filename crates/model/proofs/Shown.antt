@@ -2,7 +2,7 @@
 use Prim.Native.Nat.{ℕ, ◌+◌, ◌-◌, ◌%◌, ◌≤◌, ◌<◌}
 use mathlib.Core.Path.{◌≡◌, refl, sym, ap, ap₂, ◌∙◌}
 use mathlib.Core.List.{List, [], ◌∷◌, ◌++◌, append_assoc}
-use mathlib.Core.Bool.{Bool, true, false, cond, ◌&&◌, and_false}
+use mathlib.Core.Bool.{Bool, true, false, cond, ◌&&◌, and-false}
 use lib.ListN.{length, get_or, take, length-append}
 use lib.Seq.{take_at, drop_at, length-take-le}
 use lib.Dec.{eqb}
@@ -79,7 +79,7 @@ module _ (c : Config) (q : Request) where
   -- a request that is neither function 04 nor 20h/00 shows nothing, whatever is sent
   pub shown-beside : (r : List ℕ) → eqb q.function 0x04 ≡ false → initialises q ≡ false → shown_for c q r ≡ other
   unfolding shown_for
-  shown-beside r a b = simp (a, b, and_false)
+  shown-beside r a b = simp (a, b, and-false)
 
   shown-declined : (r : List ℕ) → 64 ≤ get_or r 2 0 → shown_for c q r ≡ other
   unfolding shown_for

@@ -2,7 +2,7 @@
 use Prim.Native.Nat.{ℕ, zero, suc, ◌+◌, ◌/◌, ◌%◌, ◌<◌}
 use mathlib.Core.Path.{◌≡◌, refl, sym, ap, ◌∙◌}
 use mathlib.Core.List.{List, [], ◌∷◌}
-use mathlib.Core.Bool.{true, false, cond, ◌&&◌, and_false}
+use mathlib.Core.Bool.{true, false, cond, ◌&&◌, and-false}
 use native.Mathlib.Omega.{arith}
 use lib.ListN.{length, get_or, replicate}
 use lib.Seq.{get_or-set_same, get_or-set_other}
@@ -13,10 +13,10 @@ use Rattle.model.specs.Frame.{Request, unit_of, broadcast_unit, heard_of, reques
 use Rattle.model.specs.Outcome.{number_of, answer_number}
 use Rattle.model.specs.Config.{Config, has, is_mean}
 use Rattle.model.specs.State.{Areas, Inner, State, fresh_areas, fresh_of}
-use Rattle.model.specs.Contacts.{Contacted, contact_of, asks_for, groups_carried, anew, unmarked, untallied, areas_anew, with_contacts}
+use Rattle.model.specs.Contacts.{Contacted, contact_of, asks_for, groups_carried, unmarked, untallied, areas_anew, with_contacts}
 use Rattle.model.specs.Means.{areas_sampled}
 use Rattle.model.specs.Event.{Local, set_word, set_value, pulses, store, contact, sample, Event, stretch, elapsed, local}
-use Rattle.model.specs.Step.{Step, with_broadcast, changed, Made, quiet, finished, step_of, areas_left, served, broadcast_made, framed, judged, elapsed_made, local_made, word_made, value_made, contact_made, store_made, sampled_made, sample_made, local_of, make_of}
+use Rattle.model.specs.Step.{Step, with_broadcast, Made, quiet, finished, step_of, areas_left, served, broadcast_made, framed, judged, elapsed_made, local_made, word_made, value_made, contact_made, store_made, sampled_made, sample_made, local_of, make_of}
 use Rattle.model.specs.Fits.{fits}
 use Rattle.model.specs.Run.{short, turned_away, shows, moves, result_of, next_of, after_from, after}
 use Rattle.model.specs.Formed.{Formed}
@@ -99,7 +99,7 @@ module _ (n : ℕ) (small : n < 256) (t : Tally) where
 
   none-tells : (m : Made) → After [] m → Tells m.inner.areas n t
   unfolding After is_in
-  none-tells m k = rw (and_false (eqb (answer_number m.answer) 0)) at k
+  none-tells m k = rw (and-false (eqb (answer_number m.answer) 0)) at k
 
   module _ (c : Config) (i : Inner) (h : Tells i.areas n t) where
     abbrev word : ℕ → ℕ

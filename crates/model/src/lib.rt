@@ -1,5 +1,7 @@
 // The types of the unit: numbers of each kind, frames, outcomes, and what is kept besides areas and records.
 // What is right to do with them stands in specs/. Areas and tables are lent as arrays and so have no type here.
+#![tactic(auto)]
+
 ghost use Rattle.std.specs.Prelude.{◌≡◌};
 ghost use Rattle.model.specs.Limits.{record_size};
 ghost use Rattle.model.specs.Control.{is_of, aged_of};
@@ -7,17 +9,17 @@ ghost use Rattle.model.specs.Tied.{limits_told};
 
 // ---- numbers: each subsystem's sequence numbers are a kind of their own
 
-#[derive(Drop)]
+#[derive(Clone, Copy)]
 pub struct Input(pub u8);
 
 // Contact 8g + i is at place i of group g, which is the input of that number.
-#[derive(Drop)]
+#[derive(Clone, Copy)]
 pub struct Contact(pub u8);
 
-#[derive(Drop)]
+#[derive(Clone, Copy)]
 pub struct ControlOutput(pub u8);
 
-#[derive(Drop)]
+#[derive(Clone, Copy)]
 pub struct SpecialCalculation(pub u8);
 
 impl SpecialCalculation {
@@ -28,7 +30,7 @@ impl SpecialCalculation {
     pub const SAMPLES: u16 = 256;
 }
 
-#[derive(Drop)]
+#[derive(Clone, Copy)]
 pub struct Master(pub u8);
 
 impl Master {
@@ -40,10 +42,10 @@ impl Master {
     }
 }
 
-#[derive(Drop)]
+#[derive(Clone, Copy)]
 pub struct Ordinal(pub u8);
 
-#[derive(Drop)]
+#[derive(Clone, Copy)]
 pub struct File(pub u8);
 
 impl File {
@@ -57,7 +59,7 @@ impl File {
 // ---- frames
 
 // The head of a master's frame: the address word as sent, function, command, and how many characters of data follow.
-#[derive(Drop)]
+#[derive(Clone, Copy)]
 pub struct Frame {
     pub address: u16,
     pub function: u8,
@@ -89,7 +91,7 @@ impl Frame {
 }
 
 // A stretch as it was heard: no whole frame, wrong check characters, a frame, or the frames of a WRITE and of its EXECUTE.
-#[derive(Drop)]
+#[derive(Clone, Copy)]
 pub enum Heard {
     Broken,
     Wrong,
@@ -98,7 +100,7 @@ pub enum Heard {
 }
 
 // The head of a reply, with how many characters of data follow.
-#[derive(Drop)]
+#[derive(Clone, Copy)]
 pub struct Reply {
     pub address: u16,
     pub function: u8,
@@ -116,7 +118,7 @@ impl Reply {
 }
 
 // A table of the table area: if it is present, its nibbles, where its numbers start, and how many they are.
-#[derive(Drop)]
+#[derive(Clone, Copy)]
 pub struct Table {
     pub present: bool,
     pub nibbles: u8,
@@ -127,7 +129,7 @@ pub struct Table {
 // ---- outcomes and answers
 
 // Outcomes 0 to 18, in their order.
-#[derive(Drop)]
+#[derive(Clone, Copy)]
 pub enum Outcome {
     Done,
     NotWhole,
@@ -151,7 +153,7 @@ pub enum Outcome {
 }
 
 // How an outcome is answered.
-#[derive(Drop)]
+#[derive(Clone, Copy)]
 pub enum Sending {
     Normal,
     Nop,
@@ -160,7 +162,7 @@ pub enum Sending {
 }
 
 // How a master read a reply: normal, refused for one of five reasons in the order judged, NOP or RST.
-#[derive(Drop)]
+#[derive(Clone, Copy)]
 pub enum Read {
     Normal,
     NotWhole,
@@ -173,7 +175,7 @@ pub enum Read {
 }
 
 // How storing a record ended; one that was swapped is kept, and an older record of its file was dropped for it.
-#[derive(Drop)]
+#[derive(Clone, Copy)]
 pub enum Stored {
     Kept,
     Swapped,
@@ -183,14 +185,14 @@ pub enum Stored {
 }
 
 // What a sample came to: the mean, or how many samples are still missing.
-#[derive(Drop)]
+#[derive(Clone, Copy)]
 pub enum Sampled {
     Ready(f32),
     NotReady(u16),
 }
 
 // How an event ended: all by an outcome, but storing a record, and a sample that was taken.
-#[derive(Drop)]
+#[derive(Clone, Copy)]
 pub enum Answer {
     Ended(Outcome),
     Storing(Stored),
@@ -198,14 +200,14 @@ pub enum Answer {
 }
 
 // How a request ended, and how many characters of data stand in the reply buffer behind the room for its head.
-#[derive(Drop)]
+#[derive(Clone, Copy)]
 pub struct Filled {
     pub outcome: Outcome,
     pub count: u16,
 }
 
 // What the unit has its control outputs do.
-#[derive(Drop)]
+#[derive(Clone, Copy)]
 pub enum Action {
     Rest,
     Operate { output: ControlOutput, close: bool },
@@ -213,7 +215,7 @@ pub enum Action {
 
 // ---- what is kept
 
-#[derive(Drop)]
+#[derive(Clone, Copy)]
 pub struct Clock {
     pub day: u16,
     pub hour: u8,
@@ -227,7 +229,7 @@ impl Clock {
     pub const LAG: u32 = 10000;
 }
 
-#[derive(Drop)]
+#[derive(Clone, Copy)]
 pub struct Select {
     pub master: Master,
     pub output: ControlOutput,
@@ -252,7 +254,7 @@ impl Select {
 }
 
 // How old a select, or a write, is after some time: it lives, or its time is over.
-#[derive(Drop)]
+#[derive(Clone, Copy)]
 pub enum Age {
     Lives(u16),
     Over,
@@ -270,14 +272,14 @@ pub fn aged(age: u16, ms: u32) -> Age
 }
 
 // The unit's one select, or the mark that its master's has timed out.
-#[derive(Drop)]
+#[derive(Clone, Copy)]
 pub enum Hold {
     Free,
     Held(Select),
     TimedOut(Master),
 }
 
-#[derive(Drop)]
+#[derive(Clone, Copy)]
 pub struct Write {
     pub master: Master,
     pub bias: u16,
@@ -286,14 +288,14 @@ pub struct Write {
 }
 
 // The unit's one write, if one waits.
-#[derive(Drop)]
+#[derive(Clone, Copy)]
 pub enum Pending {
     NoWrite,
     Waits(Write),
 }
 
 // Clock, select, write, and the status bits: 7 (to be configured), 3 (error: a file was full), 2 (a broadcast was heard).
-#[derive(Drop)]
+#[derive(Clone, Copy)]
 pub struct Core {
     pub clock: Clock,
     pub hold: Hold,
@@ -304,7 +306,7 @@ pub struct Core {
 }
 
 // What a history reply said: its data again are made from this and from the records held.
-#[derive(Drop)]
+#[derive(Clone, Copy)]
 pub struct HistoryReply {
     pub master: Master,
     pub file: File,
@@ -314,14 +316,14 @@ pub struct HistoryReply {
 }
 
 // The latest history reply, if it is remembered.
-#[derive(Drop)]
+#[derive(Clone, Copy)]
 pub enum Memory {
     Nothing,
     Remembered(HistoryReply),
 }
 
 // The head of a record: what happened, and the clock when it was stored.
-#[derive(Drop)]
+#[derive(Clone, Copy)]
 pub struct Record {
     pub event: u8,
     pub clock: Clock,
@@ -350,14 +352,14 @@ impl Record {
 }
 
 // Port 1's status: in order, silent for a minute or more, or damage was heard.
-#[derive(Drop)]
+#[derive(Clone, Copy)]
 pub enum Mark {
     Fine,
     Silent,
     Damaged,
 }
 
-#[derive(Drop)]
+#[derive(Clone, Copy)]
 pub struct Port {
     pub silence: u16,
     pub mark: Mark,
@@ -370,7 +372,7 @@ impl Port {
 
 // ---- the limits, so that the definitions and the constants cannot part
 
-#[derive(Drop)]
+#[derive(Clone, Copy)]
 pub struct Limits {
     pub shortest: usize,
     pub longest: usize,
