@@ -1,5 +1,5 @@
 -- Groups of contacts in a unit's memory: whether any waits for a reply, and groups that start anew. Assumes nothing.
-use Rattle.core.specs.Prelude.{◌≡◌, ℕ, ◌+◌, ◌*◌, ◌/◌, ◌%◌, ◌<◌, Bool, true, cond, ◌&&◌, eqb, ltb, List, [], ◌∷◌, ◌++◌, length, get_or, set}
+use Rattle.std.specs.Prelude.{◌≡◌, ℕ, ◌+◌, ◌*◌, ◌/◌, ◌%◌, ◌<◌, Bool, true, ◌&&◌, eqb, ltb, List, [], ◌∷◌, ◌++◌, length, get_or, set}
 use mathlib.Core.Path.{refl, sym, ap, ◌∙◌}
 use native.Mathlib.Omega.{arith}
 use lib.Seq.{set-get_or}
@@ -10,7 +10,7 @@ use Rattle.chars.specs.Gather.{gather, up_from, every}
 use Rattle.model.specs.Config.{has, two_bit}
 use Rattle.model.specs.Contacts.{group_in, anew, unmarked, untallied}
 use Rattle.model.proofs.Conditions.{by_cond, and_left, and_right, every-up_from}
-use Rattle.layout.specs.Unit.{Unit, unit_long, region_start, words_region, changed_region, unit_in, set_words, set_changed, set_contacts, put_word, put_changed}
+use Rattle.layout.specs.Unit.{Unit, unit_long, region_start, words_region, changed_region, unit_in, set_changed, set_contacts, put_word, put_changed}
 use Rattle.layout.specs.Contacts.{markless, changeless, told, all_told, Anew}
 use Rattle.layout.proofs.UnitLaws.{length-put_in, word_at_lem, changed_at, word-written, changed-written}
 use Rattle.layout.proofs.UnitOne.{unit-one}

@@ -1,11 +1,11 @@
 -- Laws of judging: tests that every number of a run passes, what stands in for the records, and the parts in the order of the code.
 -- Assumes nothing.
-use Rattle.core.specs.Prelude.{◌≡◌, ℕ, zero, suc, ◌+◌, ◌-◌, ◌*◌, ◌%◌, ◌<◌, ◌≤◌, Bool, true, false, cond, ◌&&◌, eqb, ltb, leb, List, [], ◌∷◌, ◌++◌, length, get_or, drop}
+use Rattle.std.specs.Prelude.{◌≡◌, ℕ, zero, suc, ◌+◌, ◌-◌, ◌*◌, ◌%◌, ◌<◌, ◌≤◌, Bool, true, false, cond, ◌&&◌, eqb, ltb, leb, List, [], ◌∷◌, ◌++◌, length, get_or, drop}
 use mathlib.Core.Path.{refl, sym, ap, ◌∙◌}
 use native.Mathlib.Numerals.{add-one}
 use native.Mathlib.Nat.{mod-eq_of_lt}
 use native.Mathlib.Omega.{arith}
-use mathlib.Core.Bool.{and_assoc, and_true, and_false}
+use mathlib.Core.Bool.{and_assoc, and-true, and-false}
 use lib.ListN.{length-replicate, length-drop, get_or-eq_default}
 use lib.Seq.{take_all}
 use lib.Bits.{bit_or, or_zero_l, or_add_and, and_le_r}
@@ -58,7 +58,7 @@ module _ {a x : Bool} where
 
 every_end : (f : ℕ → Bool) (ns : List ℕ) (n : ℕ) → every f (ns ++ (n ∷ [])) ≡ (every f ns && f n)
 unfolding every
-every_end f ns n = every_append f ns (n ∷ []) ∙ ap (λ (b : Bool). every f ns && b) (and_true (f n))
+every_end f ns n = every_append f ns (n ∷ []) ∙ ap (λ (b : Bool). every f ns && b) (and-true (f n))
 
 pub every-start : (f : ℕ → Bool) → true ≡ every f (up_from 0 0)
 unfolding every
@@ -78,7 +78,7 @@ or_none (suc a) b =
 -- two flags at once, which are told by numbers that are 0 where all is well
 and_cross : (a b c d : Bool) → ((a && b) && (c && d)) ≡ ((a && c) && (b && d))
 and_cross true b true d = refl
-and_cross true b false d = and_false b
+and_cross true b false d = and-false b
 and_cross false b c d = refl
 
 pub both_start : (f g : ℕ → Bool) → eqb 0 0 ≡ (every f (up_from 0 0) && every g (up_from 0 0))
@@ -121,7 +121,7 @@ run_next f z xs low i =
     by_bool (ltb (low + i) (length xs))
     (λ e. let h = ltb-true (low + i) (length xs) e in rw (part-more xs low i h) (every_end f (part xs low i) (get_or xs (low + i) 0)))
     (λ e. let h = ltb-false (low + i) (length xs) e in
-    rw (part_clipped xs low i h, get_or-eq_default xs 0 {n = low + i} h, z) (sym (and_true _)))
+    rw (part_clipped xs low i h, get_or-eq_default xs 0 {n = low + i} h, z) (sym (and-true _)))
 
 pub none-next : (table : List ℕ) (low i : ℕ) → none_in table low (i + 1) ≡ (none_in table low i && eqb (get_or table (low + i) 0) 0)
 unfolding none_in
@@ -260,9 +260,9 @@ byte_low k n l =
 bytes_first : (a b c d e x y z t : Bool)
     → (d && e && (a && x) && (b && y) && (c && z) && t) ≡ ((a && b && c) && ((d && e) && (x && (y && (z && t)))))
 bytes_first true true true d e x y z t = simp and_assoc
-bytes_first false b c d e x y z t = simp and_false
-bytes_first true false c d e x y z t = simp and_false
-bytes_first true true false d e x y z t = simp and_false
+bytes_first false b c d e x y z t = simp and-false
+bytes_first true false c d e x y z t = simp and-false
+bytes_first true true false d e x y z t = simp and-false
 
 pub clock-judged : (ks : List ℕ)
     → (leb 1 (get_or ks 0 0) && leb (get_or ks 0 0) 366 && leb (get_or ks 1 0) 23 && leb (get_or ks 2 0) 59 && leb (get_or ks 3 0) 59 && leb (get_or ks 4 0) 999)
@@ -278,30 +278,30 @@ turned : (a h w b m k u n x y z v p q l o t g s f r : Bool)
     ≡ (((a && t) && ((h && g) && ((w && s) && (b && (k && p))))) && ((u && (n && (l && (x && (y && z))))) && ((v && f) && ((q && o) && (m && r)))))
 turned true true true true true true true true true true true true true true true true t g s f r = simp and_assoc
 turned false h w b m k u n x y z v p q l o t g s f r = refl
-turned true false w b m k u n x y z v p q l o t g s f r = simp and_false
-turned true true false b m k u n x y z v p q l o t g s f r = simp and_false
-turned true true true false m k u n x y z v p q l o t g s f r = simp and_false
-turned true true true true false k u n x y z v p q l o t g s f r = simp and_false
-turned true true true true true false u n x y z v p q l o t g s f r = simp and_false
-turned true true true true true true false n x y z v p q l o t g s f r = simp and_false
-turned true true true true true true true false x y z v p q l o t g s f r = simp and_false
-turned true true true true true true true true false y z v p q l o t g s f r = simp and_false
-turned true true true true true true true true true false z v p q l o t g s f r = simp and_false
-turned true true true true true true true true true true false v p q l o t g s f r = simp and_false
-turned true true true true true true true true true true true false p q l o t g s f r = simp and_false
-turned true true true true true true true true true true true true false q l o t g s f r = simp and_false
-turned true true true true true true true true true true true true true false l o t g s f r = simp and_false
-turned true true true true true true true true true true true true true true false o t g s f r = simp and_false
-turned true true true true true true true true true true true true true true true false t g s f r = simp and_false
+turned true false w b m k u n x y z v p q l o t g s f r = simp and-false
+turned true true false b m k u n x y z v p q l o t g s f r = simp and-false
+turned true true true false m k u n x y z v p q l o t g s f r = simp and-false
+turned true true true true false k u n x y z v p q l o t g s f r = simp and-false
+turned true true true true true false u n x y z v p q l o t g s f r = simp and-false
+turned true true true true true true false n x y z v p q l o t g s f r = simp and-false
+turned true true true true true true true false x y z v p q l o t g s f r = simp and-false
+turned true true true true true true true true false y z v p q l o t g s f r = simp and-false
+turned true true true true true true true true true false z v p q l o t g s f r = simp and-false
+turned true true true true true true true true true true false v p q l o t g s f r = simp and-false
+turned true true true true true true true true true true true false p q l o t g s f r = simp and-false
+turned true true true true true true true true true true true true false q l o t g s f r = simp and-false
+turned true true true true true true true true true true true true true false l o t g s f r = simp and-false
+turned true true true true true true true true true true true true true true false o t g s f r = simp and-false
+turned true true true true true true true true true true true true true true true false t g s f r = simp and-false
 
 -- what is asked of the plans is taken out, and put in again before the memory
 plans_out : (r v p k l n h : Bool) → (r && (v && (p && (k && ((l && n) && h))))) ≡ (n && (r && (v && (p && (k && (l && h))))))
-plans_out r v p k l true h = rw (and_true l)
-plans_out r v p k l false h = rw (and_false l, and_false k, and_false p, and_false v, and_false r)
+plans_out r v p k l true h = rw (and-true l)
+plans_out r v p k l false h = rw (and-false l, and-false k, and-false p, and-false v, and-false r)
 
 plans_in : (n k g f s m : Bool) → (n && (k && (g && (f && (s && m))))) ≡ (k && (g && (f && (s && (n && m)))))
 plans_in true k g f s m = refl
-plans_in false k g f s m = rw (and_false s, and_false f, and_false g, and_false k)
+plans_in false k g f s m = rw (and-false s, and-false f, and-false g, and-false k)
 
 pub in_turn : (c : Config) (lent : ℕ) (plans counts taken ks : List ℕ) → length ks ≡ 26
     → (readable ks && fits_by c lent plans counts taken (core_in ks) (memory_in ks) (port_in ks))

@@ -1,13 +1,13 @@
 -- The means where they lie: places, windows behind the records, and judging; and the samples that are read from there. Assumes nothing.
-use Rattle.core.specs.Prelude.{◌≡◌, ℕ, zero, suc, ◌+◌, ◌-◌, ◌*◌, ◌^◌, ◌<◌, ◌≤◌, Bool, true, false, cond, not, ◌&&◌, ◌||◌, eqb, ltb, leb, List, [], ◌∷◌, ◌++◌, length, get_or, take, drop, set}
+use Rattle.std.specs.Prelude.{◌≡◌, ℕ, zero, suc, ◌+◌, ◌-◌, ◌*◌, ◌<◌, ◌≤◌, Bool, true, false, cond, not, ◌&&◌, eqb, ltb, leb, List, [], ◌∷◌, ◌++◌, length, get_or, take, drop, set}
 use mathlib.Core.Path.{refl, sym, ap, ◌∙◌}
-use native.Mathlib.Nat.{add-zero, add-suc, add-sub_of_le}
+use native.Mathlib.Nat.{add-sub_of_le}
 use native.Mathlib.Numerals.{add-one}
 use native.Mathlib.Omega.{arith}
 use native.Mathlib.Decide.{dec_lt}
-use mathlib.Core.Bool.{and_false}
+use mathlib.Core.Bool.{and-false}
 use lib.ListN.{length-append, length-set, get_or-append}
-use lib.Seq.{get_or_at, get_or-drop, get_or-set_same, get_or-set_other, set_out, ext_get_or}
+use lib.Seq.{get_or_at, get_or-drop, get_or-set_same, get_or-set_other, ext_get_or}
 use lib.Bits.{bit_and, bit_or}
 use lib.Dec.{lit<, lit≤}
 use borrow.Author.Tests.{eqb-true, le-leb, lt-leb, leb-true, leb-false, eq-eqb, ne_eqb, ltb-true, lt-ltb, le-ltb}
@@ -17,22 +17,22 @@ use Rattle.chars.specs.Word.{word, word_at}
 use Rattle.chars.proofs.PutLaws.{length-put, length_part, part-part, put_all, put-put, drop-put, get_d_put-before, get_d_put_in}
 use Rattle.chars.proofs.WordLaws.{length-word}
 use Rattle.chars.proofs.GatherLaws.{gather-each}
-use Rattle.model.specs.Limits.{most_means, most_doublings, most_samples}
-use Rattle.model.specs.Config.{Config, number_at, window_at, first_of, names, place_of, doublings_of, is_power, mean_valid, means_valid}
+use Rattle.model.specs.Limits.{most_samples}
+use Rattle.model.specs.Config.{Config, number_at, window_at, first_of, doublings_of, is_power, mean_valid, means_valid}
 use Rattle.model.specs.Means.{samples_at, waits, struck_at, struck_to, equipped_now}
 use Rattle.model.specs.Fits.{samples_fit}
-use Rattle.model.proofs.Conditions.{by_bool, by_cond, by_eqb, and_left, and_right, and_both, every-up_from, up_from-every, false-true}
+use Rattle.model.proofs.Conditions.{by_bool, by_eqb, and_left, and_right, and_both, every-up_from, up_from-every, false-true}
 use Rattle.model.proofs.Exact.{power, power_most}
-use Rattle.layout.specs.Regions.{start_in, region_in}
-use Rattle.layout.specs.Unit.{unit_sizes, config_sizes, region_start, calculations_region, windows_region, words_in, config_from, unit_from, unit_in, config_in, config_given}
-use Rattle.layout.specs.Records.{Layout, Serves, upto, words_at, records_room, windows_to, room_of, packed, each, words_from, window_in, samples_laid}
+use Rattle.layout.specs.Regions.{start_in}
+use Rattle.layout.specs.Unit.{unit_sizes, config_sizes, region_start, calculations_region, windows_region, config_from, unit_from, unit_in, config_in, config_given}
+use Rattle.layout.specs.Records.{Layout, Serves, upto, words_at, records_room, windows_to, room_of, each, words_from, window_in, samples_laid}
 use Rattle.layout.specs.Judged.{samples_by, means_judged}
-use Rattle.layout.proofs.RegionLaws.{region_at, region_part}
+use Rattle.layout.proofs.RegionLaws.{region_part}
 use Rattle.layout.proofs.UnitLaws.{unit_figure, words_at_lem, given_word}
 use Rattle.layout.proofs.PlacedLaws.{mean_window_at, mean_window-past}
 use Rattle.layout.proofs.JudgedLaws.{or_none, sampled_by_lem}
 use Rattle.layout.proofs.RangeLaws.{same_bool}
-use Rattle.layout.proofs.RecordsLaws.{upto-none, upto-past, upto-same, room_here, room-given}
+use Rattle.layout.proofs.RecordsLaws.{upto-none, upto-past, upto-same}
 
 -- ---- the first that passes
 
@@ -150,7 +150,7 @@ module _ (u : List ℕ) (e : (every (λ p. eqb (window_at (config_in u) p) 0) (u
       let a : every (mean_valid (config_in u)) (up_from 0 16) ≡ true = up_from-every _ 0 16 (λ p l h. unused p h) in
       let b : every (samples_fit (config_in u) (samples_by (unit_in u).taken)) (up_from 0 16) ≡ true = up_from-every _ 0 16 (λ p l h. empty p h) in
       let z : records_room (config_in u) + windows_to (config_in u) 16 ≡ records_room (config_in u) = omega (arith, none-windows) in
-      rw (z, a, b) (sym (mathlib.Core.Bool.and_true _))
+      rw (z, a, b) (sym (mathlib.Core.Bool.and-true _))
 
 -- the answers of the code where there are means
 module _ (u : List ℕ) (room : ℕ) {windows : ℕ} (k : windows ≡ windows_to (config_in u) 16) where

@@ -1,9 +1,9 @@
 -- Numbers written are read as what was written, and readable numbers are those written for what they mean. Assumes nothing.
-use Rattle.core.specs.Prelude.{◌≡◌, ℕ, zero, suc, ◌%◌, ◌<◌, Bool, true, false, eqb, List, [], ◌∷◌, length, get_or, drop}
+use Rattle.std.specs.Prelude.{◌≡◌, ℕ, zero, suc, ◌%◌, ◌<◌, Bool, true, false, eqb, List, [], ◌∷◌, length, get_or, drop}
 use mathlib.Core.Path.{refl, sym, ◌∙◌}
 use native.Mathlib.Omega.{arith}
 use native.Mathlib.Nat.{mod-eq_of_lt}
-use borrow.Author.Tests.{eqb-true, eq-eqb, ne_eqb}
+use borrow.Author.Tests.{eqb-true, eq-eqb}
 use Rattle.model.specs.Port.{mark_number}
 use Rattle.model.specs.declared.Master.{Master}
 use Rattle.model.specs.declared.Select.{Select}
@@ -19,7 +19,7 @@ use Rattle.model.specs.declared.Memory.TheVariants.{Remembered}
 use Rattle.model.specs.declared.Mark.{Mark}
 use Rattle.model.specs.declared.Mark.TheVariants.{Fine, Silent, Damaged}
 use Rattle.model.specs.declared.Port.{Port}
-use Rattle.model.proofs.Conditions.{false-true, and_left, and_right, and_both, by_eqb}
+use Rattle.model.proofs.Conditions.{false-true, and_left, and_right, and_both}
 use Rattle.layout.specs.declared.select.HoldNumbers.{HoldNumbers}
 use Rattle.layout.specs.declared.write.WriteNumbers.{WriteNumbers}
 use Rattle.layout.specs.declared.memory.MemoryNumbers.{MemoryNumbers}

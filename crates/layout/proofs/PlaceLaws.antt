@@ -1,5 +1,5 @@
 -- One part of readable numbers written anew: they are readable, and mean the same but for that part. Assumes nothing.
-use Rattle.core.specs.Prelude.{◌≡◌, ℕ, ◌<◌, Bool, List}
+use Rattle.std.specs.Prelude.{◌≡◌, ℕ, ◌<◌, Bool, List}
 use mathlib.Core.Path.{refl, ◌∙◌}
 use native.Mathlib.Nat.{mod-eq_of_lt}
 use Rattle.model.specs.Step.{with_clock, with_hold, with_write, with_configure, with_error, with_broadcast}

@@ -1,9 +1,9 @@
 -- Numbers that a unit writes for what they mean are those in their ranges, and 0 where their case writes none. Assumes nothing.
-use Rattle.core.specs.Prelude.{◌≡◌, ℕ, ◌%◌, ◌<◌, Bool, true, false, ◌&&◌, eqb, ltb, List, length, get_or}
+use Rattle.std.specs.Prelude.{◌≡◌, ℕ, ◌%◌, ◌<◌, Bool, true, false, ◌&&◌, eqb, ltb, List, length, get_or}
 use mathlib.Core.Path.{refl, sym, subst}
 use native.Mathlib.Omega.{arith}
 use native.Mathlib.Nat.{mod-eq_of_lt}
-use mathlib.Core.Bool.{and_assoc, and_true}
+use mathlib.Core.Bool.{and_assoc, and-true}
 use borrow.Author.Tests.{eqb-true, eq-eqb, ne_eqb, ltb-true, lt-ltb}
 use Rattle.model.specs.Port.{mark_number}
 use Rattle.model.proofs.Conditions.{by_eqb}
@@ -72,15 +72,15 @@ mark-same n =
 module _ (n : HoldNumbers) where
   pub hold-free : n.hold ≡ 0 → (eqb n.master 0 && eqb n.output 0 && eqb n.close 0 && eqb n.age 0) ≡ same (hold_places (hold_numbers (hold_in n))) (hold_places n)
   unfolding hold_in hold_numbers same
-  hold-free e = rw e (simp (zero_same, and_assoc, and_true))
+  hold-free e = rw e (simp (zero_same, and_assoc, and-true))
 
   pub hold-held : n.hold ≡ 1 → (ltb n.master 256 && ltb n.output 256 && ltb n.close 2) ≡ same (hold_places (hold_numbers (hold_in n))) (hold_places n)
   unfolding hold_in hold_numbers same
-  hold-held e = rw e (simp (byte_same, bit-same, eqb_same, and_assoc, and_true))
+  hold-held e = rw e (simp (byte_same, bit-same, eqb_same, and_assoc, and-true))
 
   pub hold-timed_out : n.hold ≡ 2 → (ltb n.master 256 && eqb n.output 0 && eqb n.close 0 && eqb n.age 0) ≡ same (hold_places (hold_numbers (hold_in n))) (hold_places n)
   unfolding hold_in hold_numbers same
-  hold-timed_out e = rw e (simp (byte_same, zero_same, and_assoc, and_true))
+  hold-timed_out e = rw e (simp (byte_same, zero_same, and_assoc, and-true))
 
   pub hold-none : (n.hold ≡ 0 → ⊥) → (n.hold ≡ 1 → ⊥) → (n.hold ≡ 2 → ⊥) → false ≡ same (hold_places (hold_numbers (hold_in n))) (hold_places n)
   unfolding hold_in hold_numbers same
@@ -89,11 +89,11 @@ module _ (n : HoldNumbers) where
 module _ (n : WriteNumbers) where
   pub write-free : n.write ≡ 0 → (eqb n.master 0 && eqb n.bias 0 && eqb n.ordinal 0 && eqb n.age 0) ≡ same (write_places (write_numbers (write_in n))) (write_places n)
   unfolding write_in write_numbers same
-  write-free e = rw e (simp (zero_same, and_assoc, and_true))
+  write-free e = rw e (simp (zero_same, and_assoc, and-true))
 
   pub write-waits : n.write ≡ 1 → (ltb n.master 256 && ltb n.ordinal 256) ≡ same (write_places (write_numbers (write_in n))) (write_places n)
   unfolding write_in write_numbers same
-  write-waits e = rw e (simp (byte_same, eqb_same, and_true))
+  write-waits e = rw e (simp (byte_same, eqb_same, and-true))
 
   pub write-none : (n.write ≡ 0 → ⊥) → (n.write ≡ 1 → ⊥) → false ≡ same (write_places (write_numbers (write_in n))) (write_places n)
   unfolding write_in write_numbers same
@@ -102,11 +102,11 @@ module _ (n : WriteNumbers) where
 module _ (n : MemoryNumbers) where
   pub memory-nothing : n.memory ≡ 0 → (eqb n.master 0 && eqb n.file 0 && eqb n.dump 0 && eqb n.quantity 0 && eqb n.more 0) ≡ same (memory_places (memory_numbers (reply_in n))) (memory_places n)
   unfolding reply_in memory_numbers same
-  memory-nothing e = rw e (simp (zero_same, and_assoc, and_true))
+  memory-nothing e = rw e (simp (zero_same, and_assoc, and-true))
 
   pub memory_remembered : n.memory ≡ 1 → (ltb n.master 256 && ltb n.file 256 && ltb n.dump 2 && ltb n.quantity 256 && ltb n.more 2) ≡ same (memory_places (memory_numbers (reply_in n))) (memory_places n)
   unfolding reply_in memory_numbers same
-  memory_remembered e = rw e (simp (byte_same, bit-same, and_assoc, and_true))
+  memory_remembered e = rw e (simp (byte_same, bit-same, and_assoc, and-true))
 
   pub memory-none : (n.memory ≡ 0 → ⊥) → (n.memory ≡ 1 → ⊥) → false ≡ same (memory_places (memory_numbers (reply_in n))) (memory_places n)
   unfolding reply_in memory_numbers same
@@ -124,7 +124,7 @@ Parts ks =
 
 firsts_parts : (ks : List ℕ) → Parts (firsts 26 ks)
 unfolding firsts readable numbers_of clock_in core_in memory_in port_in same
-firsts_parts ks = simp (byte_same, bit-same, mark-same, eqb_same, and_assoc, and_true)
+firsts_parts ks = simp (byte_same, bit-same, mark-same, eqb_same, and_assoc, and-true)
 
 pub readable-parts : (ks : List ℕ) → length ks ≡ 26 → Parts ks
 readable-parts ks l = subst Parts (sym (all_firsts 26 ks l)) (firsts_parts ks)

@@ -1,6 +1,5 @@
 -- Two ends of a call that meet its contract are equal: what each public function promises says everything. What a memory means says every
 -- character of it (UnitOne). Assumes nothing.
-use Rattle.core.specs.Prelude.{◌≡◌}
 use mathlib.Core.Path.{sym, ◌∙◌}
 use Rattle.chars.specs.One.{One}
 use Rattle.layout.specs.Unit.{unit_in}
@@ -9,8 +8,8 @@ use Rattle.layout.proofs.clock.keep_clock.Reads as keep-clock
 use Rattle.layout.proofs.config.name_unit.Reads as name-unit
 use Rattle.layout.proofs.config.equip_input.Reads as equip-input
 use Rattle.layout.proofs.config.begin.Reads as begin
-use Rattle.layout.proofs.core.core_in.Reads as core-in
-use Rattle.layout.proofs.core.keep_core.Reads as keep-core
+use Rattle.layout.proofs.core_part.core_in.Reads as core-in
+use Rattle.layout.proofs.core_part.keep_core.Reads as keep-core
 use Rattle.layout.proofs.equipment.number_of.Reads as number_of_lem
 use Rattle.layout.proofs.equipment.length_of.Reads as length-of
 use Rattle.layout.proofs.equipment.has_input.Reads as has-input

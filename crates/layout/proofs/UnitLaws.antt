@@ -1,5 +1,5 @@
 -- What a unit's memory means where it was read, and after a part was written: that part's meaning, and every other as it was.
-use Rattle.core.specs.Prelude.{◌≡◌, ℕ, zero, suc, ◌+◌, ◌*◌, ◌/◌, ◌%◌, ◌<◌, ◌≤◌, Bool, true, false, cond, leb, List, [], ◌∷◌, ◌++◌, length, get_or, set}
+use Rattle.std.specs.Prelude.{◌≡◌, ℕ, zero, suc, ◌+◌, ◌*◌, ◌/◌, ◌%◌, ◌<◌, ◌≤◌, Bool, true, false, cond, leb, List, [], ◌∷◌, ◌++◌, length, get_or, set}
 use mathlib.Core.Path.{refl, sym, ap, ◌∙◌}
 use native.Mathlib.Omega.{arith}
 use lib.ListN.{length-append, get_or-eq_default}
@@ -10,7 +10,6 @@ use Rattle.chars.specs.Put.{put, part}
 use Rattle.chars.specs.Word.{word, value, word_at}
 use Rattle.chars.proofs.PutLaws.{length-put, put-none, put_one, put_all, put_then}
 use Rattle.chars.proofs.WordLaws.{length-word, length-value}
-use Rattle.model.specs.Config.{Config}
 use Rattle.layout.specs.Regions.{start_in, region_in, set_at}
 use Rattle.layout.specs.Unit.{Unit, Renumbered, NumbersOnly, numbers_in, config_sizes, unit_sizes, unit_long, region_start, layout_region, number_region, length_region, inputs_region, outputs_region, calculations_region, files_region, values_region, oldest_region, numbers_region, words_region, results_region, fixed_region, counts_region, dropped_region, changed_region, taken_region, plans_region, words_in, results_in, config_from, unit_from, unit_in, config_in, set_numbers, set_words, set_values, set_fixed, set_counts, set_dropped, set_changed, set_taken, set_plans, put_in, put_number, put_word, put_value, put_fixed, put_count, put_counts, put_dropped, put_changed, put_taken, put_plans_at, put_plans}
 use Rattle.layout.proofs.RegionLaws.{regions_put, region_whole, region_at, region_past, region_part, region_own, region_most}

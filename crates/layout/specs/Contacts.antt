@@ -1,5 +1,5 @@
 -- The groups of contacts in a unit's memory: which wait for a reply, and a memory in which some start anew.
-use Rattle.core.specs.Prelude.{◌≡◌, ℕ, ◌/◌, Bool, ◌&&◌, List, length, ◌==◌, slice_index}
+use Rattle.std.specs.Prelude.{◌≡◌, ℕ, ◌/◌, Bool, ◌&&◌, List, length, ◌==◌, slice_index}
 use Rattle.chars.specs.Gather.{up_from, every}
 use Rattle.model.specs.Contacts.{anew, unmarked, untallied}
 use Rattle.layout.specs.Unit.{unit_in, set_contacts}

@@ -1,5 +1,5 @@
 -- A unit judged by what is lent: its memory, and in place of its records how many each file holds.
-use Rattle.core.specs.Prelude.{ℕ, Bool, ◌&&◌, List, [], map, replicate, ◌==◌, nat_le, nat_lt, slice_index}
+use Rattle.std.specs.Prelude.{ℕ, Bool, ◌&&◌, List, [], map, replicate, ◌==◌, nat_le, nat_lt, slice_index}
 use Rattle.chars.specs.Gather.{up_from, every}
 use Rattle.model.specs.Limits.{most_means}
 use Rattle.model.specs.Clock.{clock_fits}

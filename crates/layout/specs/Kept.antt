@@ -1,5 +1,5 @@
 -- All that a unit keeps: what its owner lends, what that means, and the definition's state for which it stands.
-use Rattle.core.specs.Prelude.{◌≡◌, ℕ, Bool, ◌&&◌, List, length, ◌==◌, nat_le}
+use Rattle.std.specs.Prelude.{◌≡◌, ℕ, Bool, ◌&&◌, List, length, ◌==◌, nat_le}
 use Rattle.model.specs.Config.{Config}
 use Rattle.model.specs.State.{Areas, Files, History, Inner, State}
 use Rattle.model.specs.declared.Core.{Core}

@@ -1,5 +1,5 @@
 -- What a unit keeps besides lent areas and records, as 26 plain numbers: written, and read whatever they are.
-use Rattle.core.specs.Prelude.{◌≡◌, ℕ, ◌%◌, Bool, true, false, cond, ◌&&◌, List, [], ◌∷◌, ◌==◌, slice_index, slice_set}
+use Rattle.std.specs.Prelude.{◌≡◌, ℕ, ◌%◌, Bool, true, false, cond, ◌&&◌, List, [], ◌∷◌, ◌==◌, slice_index, slice_set}
 use Rattle.model.specs.Port.{mark_number}
 use Rattle.model.specs.declared.Hold.{Hold}
 use Rattle.model.specs.declared.Hold.TheVariants.{Free, Held, TimedOut}

@@ -1,5 +1,5 @@
 -- A memory cut into regions of given sizes, one after the other.
-use Rattle.core.specs.Prelude.{ℕ, zero, suc, ◌+◌, List, [], ◌∷◌, take, drop}
+use Rattle.std.specs.Prelude.{ℕ, zero, suc, ◌+◌, List, [], ◌∷◌, take, drop}
 
 -- where region k starts
 unfoldable pub start_in : List ℕ → ℕ → ℕ

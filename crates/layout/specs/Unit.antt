@@ -1,5 +1,5 @@
 -- Where everything lies in a unit's memory, and what its characters mean. This stands once.
-use Rattle.core.specs.Prelude.{◌≡◌, ℕ, ◌+◌, ◌*◌, cond, List, [], ◌∷◌, ◌++◌, length, replicate, nat_le, slice_index}
+use Rattle.std.specs.Prelude.{◌≡◌, ℕ, ◌+◌, ◌*◌, cond, List, [], ◌∷◌, ◌++◌, length, replicate, nat_le, slice_index}
 use Rattle.chars.specs.Put.{put}
 use Rattle.chars.specs.Word.{word, value, word_at}
 use Rattle.model.specs.Config.{Config}

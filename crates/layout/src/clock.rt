@@ -1,5 +1,5 @@
 // The clock.
-ghost use Rattle.core.specs.Prelude.{◌≡◌, ◌<◌};
+ghost use Rattle.std.specs.Prelude.{◌≡◌, ◌<◌};
 ghost use Rattle.layout.specs.Unit.{unit_in, Renumbered};
 ghost use Rattle.layout.specs.Numbers.{clock_in, put_clock};
 ghost use Rattle.layout.specs.Judged.{clock_judged};

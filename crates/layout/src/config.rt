@@ -1,5 +1,5 @@
 // A configuration made, before a unit is laid of it, and a unit's memory begun with it.
-ghost use Rattle.core.specs.Prelude.{◌≡◌};
+ghost use Rattle.std.specs.Prelude.{◌≡◌};
 ghost use Rattle.layout.specs.Unit.{name_unit, equip_input, blank_unit};
 
 use super::{CONFIG, CURRENT, INPUTS, LAYOUT, NUMBER, UNIT};

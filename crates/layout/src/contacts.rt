@@ -1,5 +1,5 @@
 // The groups of contacts: which of each have changed since its last reply, and whether any has something to tell.
-ghost use Rattle.core.specs.Prelude.{◌≡◌, slice_index};
+ghost use Rattle.std.specs.Prelude.{◌≡◌, slice_index};
 ghost use Rattle.layout.specs.Unit.{unit_in, put_changed};
 ghost use Rattle.chars.specs.Gather.{up_from, every};
 ghost use Rattle.layout.specs.Contacts.{markless, changeless, all_told};

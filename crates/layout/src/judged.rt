@@ -1,9 +1,9 @@
 // Judging: whether a unit's configuration is valid and its kept state in range. No record is read, only how many each file
 // holds, so that the cost does not grow with them.
-ghost use Rattle.core.specs.Prelude.{◌≡◌};
+ghost use Rattle.std.specs.Prelude.{◌≡◌};
 ghost use Rattle.layout.specs.Judged.{fits_in};
 
-use super::core::core_judged;
+use super::core_part::core_judged;
 use super::equipment::config_judged;
 use super::files::files_judged;
 use super::means::means_fit;

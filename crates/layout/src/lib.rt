@@ -1,8 +1,10 @@
 // Where everything lies in a unit's memory: the one table of places, and each part read, written and judged there.
+#![tactic(auto)]
+
 mod clock;
 mod config;
 mod contacts;
-mod core;
+mod core_part;
 mod equipment;
 mod files;
 mod judged;
@@ -17,13 +19,13 @@ mod select;
 mod status;
 mod write;
 
-ghost use Rattle.core.specs.Prelude.{◌≡◌};
+ghost use Rattle.std.specs.Prelude.{◌≡◌};
 ghost use Rattle.layout.specs.Unit.{places_of};
 
 pub use clock::{clock_in, keep_clock};
 pub use config::{begin, equip_input, name_unit};
 pub use contacts::{all_told, changed_of, put_changed};
-pub use core::{core_in, keep_core};
+pub use core_part::{core_in, keep_core};
 pub use equipment::{has_calculation, has_input, has_output, length_of, number_of};
 pub use files::{count_of, dropped_of, has_file, keeps_oldest, put_count, put_dropped, values_of};
 pub use judged::fits;
@@ -91,7 +93,7 @@ const PLANS: usize = TAKEN + 32;
 pub const UNIT: usize = PLANS + 112;
 
 // Where the regions start, how long a configuration and how long a unit is.
-#[derive(Drop)]
+#[derive(Clone, Copy)]
 pub struct Places {
     pub layout: usize,
     pub number: usize,

@@ -1,6 +1,6 @@
 // The means: the sixteen places of the configuration, how many samples of each are in, where these stand behind the records, and what of
 // all that is in range.
-ghost use Rattle.core.specs.Prelude.{◌≡◌, ◌+◌, ◌*◌, ◌<◌, ◌≤◌, true, ◌&&◌, length, ◌==◌, nat_eq, nat_le, slice_index};
+ghost use Rattle.std.specs.Prelude.{◌≡◌, ◌+◌, ◌*◌, ◌<◌, ◌≤◌, true, ◌&&◌, length, ◌==◌, nat_eq, nat_le, slice_index};
 ghost use Rattle.chars.specs.Gather.{up_from, every};
 ghost use Rattle.model.specs.Config.{file_valid, has_analog, number_at, analog_at, window_at, names, place_of, is_power, mean_valid};
 ghost use Rattle.model.specs.Means.{struck_at, struck_to, equipped_now};

@@ -1,5 +1,5 @@
 // The 26 kept numbers of a unit, one by one, and what reading, writing and judging of every part of them uses.
-ghost use Rattle.core.specs.Prelude.{◌≡◌, ◌+◌, ◌%◌, ◌<◌, ◌&&◌, ◌==◌, slice_index, slice_set};
+ghost use Rattle.std.specs.Prelude.{◌≡◌, ◌+◌, ◌%◌, ◌<◌, ◌&&◌, ◌==◌, slice_index, slice_set};
 ghost use Rattle.layout.specs.Unit.{unit_in, Renumbered, put_number};
 ghost use Rattle.layout.specs.Numbers.{bit_of};
 

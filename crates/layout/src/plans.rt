@@ -1,5 +1,5 @@
 // The scan plans: sixteen outcomes, then the parts of each. Of them only the outcomes are judged: any part is bounded where it is used.
-ghost use Rattle.core.specs.Prelude.{◌≡◌};
+ghost use Rattle.std.specs.Prelude.{◌≡◌};
 ghost use Rattle.model.specs.Plans.{planned, plans_fit};
 ghost use Rattle.layout.specs.Unit.{unit_in, put_plans_at};
 

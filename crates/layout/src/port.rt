@@ -1,5 +1,5 @@
 // The port: for how long it has heard nothing, and its mark, 0 fine, 1 silent, 2 damaged.
-ghost use Rattle.core.specs.Prelude.{◌≡◌};
+ghost use Rattle.std.specs.Prelude.{◌≡◌};
 ghost use Rattle.model.specs.Port.{mark_number};
 ghost use Rattle.layout.specs.Unit.{unit_in, Renumbered};
 ghost use Rattle.layout.specs.Numbers.{mark_in, mark_at, port_in, put_port};

@@ -1,5 +1,5 @@
 // The select: a tag first, 0 none, 1 one is held, 2 a master's has timed out, and 0 in each place that its case does not use.
-ghost use Rattle.core.specs.Prelude.{◌≡◌};
+ghost use Rattle.std.specs.Prelude.{◌≡◌};
 ghost use Rattle.model.specs.Fits.{master_fits, hold_fits};
 ghost use Rattle.model.specs.declared.Hold.TheVariants.{Held};
 ghost use Rattle.layout.specs.Unit.{unit_in, config_in, Renumbered};
@@ -11,7 +11,7 @@ use super::equipment::has_output;
 use super::numbers::{as_number, bit, kept_of, low, put_kept, zeros};
 use model::{ControlOutput, Hold, Master, Select};
 
-#[derive(Drop)]
+#[derive(Clone, Copy)]
 pub struct HoldNumbers {
     pub hold: u16,
     pub master: u16,

@@ -1,5 +1,5 @@
 // The status bits that are kept: configure, error and broadcast, each a number, 0 or 1.
-ghost use Rattle.core.specs.Prelude.{◌≡◌};
+ghost use Rattle.std.specs.Prelude.{◌≡◌};
 ghost use Rattle.layout.specs.Unit.{unit_in, Renumbered};
 ghost use Rattle.layout.specs.Numbers.{core_in, put_configure, put_error, put_broadcast};
 ghost use Rattle.layout.specs.Judged.{bits_judged};

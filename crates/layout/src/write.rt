@@ -1,5 +1,5 @@
 // The write: a tag first, 0 none, 1 one waits, and 0 in each place that its case does not use.
-ghost use Rattle.core.specs.Prelude.{◌≡◌};
+ghost use Rattle.std.specs.Prelude.{◌≡◌};
 ghost use Rattle.model.specs.Fits.{write_fits};
 ghost use Rattle.model.specs.declared.Pending.TheVariants.{Waits};
 ghost use Rattle.layout.specs.Unit.{unit_in, Renumbered};
@@ -11,7 +11,7 @@ use super::numbers::{as_number, kept_of, low, put_kept, zeros};
 use super::select::master_fits;
 use model::{Master, Ordinal, Pending, Select, Write};
 
-#[derive(Drop)]
+#[derive(Clone, Copy)]
 pub struct WriteNumbers {
     pub write: u16,
     pub master: u16,

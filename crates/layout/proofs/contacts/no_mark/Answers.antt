@@ -1,0 +1,17 @@
+-- `layout::contacts::no_mark` meets its contract: what the groups up to here have joined. Assumes nothing.
+use native.Mathlib.Omega.{arith}
+use Rattle.layout.specs.Regions.{start_in}
+use Rattle.layout.specs.Unit.{unit_sizes}
+use Rattle.layout.proofs.ContactLaws.{each_start, markless-next, each-done}
+use borrow.Author.Rules.{rules}
+use Rattle.layout.proofs.contacts.no_mark.Goals as goal
+
+pub loop-group-init : goal.loop-group-init
+loop-group-init c = (search rules, each_start _)
+
+pub loop-group-preserved : goal.loop-group-preserved
+unfolding start_in unit_sizes
+loop-group-preserved c = (search rules, markless-next _ _ c.loop-group.joined _ (omega arith) c.loop-group.invariant.1 c.word_at-joined.ensures)
+
+pub returns : goal.returns
+returns c = each-done _ c.loop-group.invariant.1 (omega arith)

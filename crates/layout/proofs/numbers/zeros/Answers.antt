@@ -1,0 +1,10 @@
+-- `layout::numbers::zeros` meets its contract: one comparison of a sum, which is 0 where each of its parts is.
+-- Assumes nothing.
+use mathlib.Core.Path.{◌∙◌}
+use Rattle.layout.proofs.JudgedLaws.{zeros_one}
+use Rattle.layout.proofs.numbers.zeros.Goals as goal
+
+pub returns : goal.returns
+returns c =
+    zeros_one (c.sized-a.ensures.0 ∙ c.kept_of.ensures) (c.sized-b.ensures.0 ∙ c.kept_of-2.ensures)
+    (c.sized-c.ensures.0 ∙ c.kept_of-3.ensures) (c.sized-d.ensures.0 ∙ c.kept_of-4.ensures)
