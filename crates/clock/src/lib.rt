@@ -1,4 +1,6 @@
 // The unit's clock: Set Time, Read Time, and time that passes.
+#![tactic(auto)]
+
 ghost use Rattle.std.specs.Prelude.{◌≡◌, true, ◌*◌, ◌-◌, ◌%◌, ◌<◌, length};
 ghost use Rattle.chars.specs.Put.{put};
 ghost use Rattle.model.specs.Limits.{reply_head};
@@ -14,7 +16,7 @@ use model::{Clock, Filled, Frame, Outcome, Reply};
 const YEAR: u64 = 366 * 86400000;
 
 // How Set Time ended, and the clock after it.
-#[derive(Drop)]
+#[derive(Clone, Copy)]
 pub struct Set {
     pub outcome: Outcome,
     pub clock: Clock,

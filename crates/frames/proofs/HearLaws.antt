@@ -3,7 +3,7 @@ use mathlib.Core.Path.{◌≡◌, sym, ◌∙◌}
 use Prim.Native.Nat.{ℕ, ◌+◌, ◌-◌, ◌≤◌, ◌<◌}
 use native.Mathlib.Omega.{arith}
 use mathlib.Core.List.{List}
-use mathlib.Core.Bool.{true, false, ◌&&◌, and_false}
+use mathlib.Core.Bool.{true, false, ◌&&◌, and-false}
 use lib.ListN.{length, get_or, take, drop, length-drop}
 use lib.Seq.{take_all}
 use lib.Dec.{eqb}
@@ -72,7 +72,7 @@ module _ (s : List ℕ) where
   pub short_none : length s < write_frame → paired s ≡ false
   unfolding paired commands
   short_none h =
-      let e : whole (drop write_frame s) ≡ false = short_unwhole (drop write_frame s) (omega (arith, length-drop write_frame s)) in simp (e, and_false)
+      let e : whole (drop write_frame s) ≡ false = short_unwhole (drop write_frame s) (omega (arith, length-drop write_frame s)) in simp (e, and-false)
 
   pub pair-long : paired s ≡ true → write_frame ≤ length s
   pair-long e = omega (arith, whole_long (drop write_frame s) (pair_parts e).1, length-drop write_frame s)

@@ -1,4 +1,6 @@
 // Frames: a stretch read as a master's frame or as a pair, a reply written round its data in a lent buffer, and a master's frame written there.
+#![tactic(auto)]
+
 ghost use Rattle.std.specs.Prelude.{◌≡◌, true, [], ◌∷◌, ◌++◌, ◌+◌, ◌-◌, ◌*◌, ◌^◌, ◌<◌, ◌≤◌, length, take};
 ghost use Rattle.chars.specs.Put.{put, part};
 ghost use Rattle.chars.specs.Word.{word};

@@ -1,5 +1,5 @@
 -- Groups of several numbers that start anew one after another. Assumes nothing.
-use Rattle.std.proofs.Common.{◌≡◌, ℕ, List, [], ◌∷◌, ◌++◌, sym, ap, ◌∙◌}
+use Rattle.std.proofs.Common.{◌≡◌, ℕ, List, [], ◌∷◌, ◌++◌, ap}
 use Rattle.chars.specs.Gather.{gather}
 use Rattle.chars.proofs.GatherLaws.{gather_append, gather-more}
 use Rattle.model.specs.Config.{Config}

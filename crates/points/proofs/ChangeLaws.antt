@@ -1,7 +1,7 @@
 -- What the events on points and 20h/11h come to, case by case.
 -- Assumes nothing.
 use Rattle.std.proofs.Common.{◌≡◌, ℕ, ◌+◌, ◌%◌, ◌<◌, ◌≤◌, true, false, not, List, [], ◌∷◌, length, get_or, set, refl, arith, le-ltb, lt-ltb, eq-eqb, ne_eqb}
-use mathlib.Core.Bool.{and_false}
+use mathlib.Core.Bool.{and-false}
 use Rattle.model.specs.Frame.{Request}
 use Rattle.model.specs.Config.{has, two_bit, accumulator, has_calculation, Config, is_mean}
 use Rattle.model.specs.Scan.{counts}
@@ -17,7 +17,7 @@ use Rattle.model.specs.declared.Outcome.TheVariants.{NotValid, WrongCount}
 module _ (n : ℕ) where
   pub contacts_made : n < 32 → false ≡ settable n
   unfolding settable two_bit
-  contacts_made h = simp (lt-ltb n 32 h, and_false (not (accumulator n)))
+  contacts_made h = simp (lt-ltb n 32 h, and-false (not (accumulator n)))
 
   pub counts_made : accumulator n ≡ true → false ≡ settable n
   unfolding settable

@@ -1,6 +1,6 @@
 -- A contact's state given, and a group that starts anew, case by case. Assumes nothing.
 use Rattle.std.proofs.Common.{◌≡◌, ℕ, ◌+◌, ◌*◌, ◌/◌, ◌%◌, ◌^◌, ◌<◌, ◌≤◌, true, false, List, length, get_or, sym, ◌∙◌, arith, shl_exact, le-ltb, lt-ltb, eq-eqb, ne_eqb}
-use mathlib.Core.Bool.{and_false}
+use mathlib.Core.Bool.{and-false}
 use Rattle.model.specs.Config.{has, two_bit}
 use Rattle.model.specs.Contacts.{bit_in, with_bit, word_after, changed_after, contact_of, group_in}
 use Rattle.model.specs.declared.Outcome.TheVariants.{Done, NotValid}
@@ -83,7 +83,7 @@ module _ (u : List ℕ) (n : ℕ) where
 
   pub group_missing : has (config_in u).inputs n ≡ false → Anew u u (group_in (config_in u).inputs n)
   unfolding group_in
-  group_missing e = rw (e, and_false (two_bit n)) (anew-none u)
+  group_missing e = rw (e, and-false (two_bit n)) (anew-none u)
 
   pub group_anew : {w : List ℕ} → length u ≡ unit_long → n < 32 → has (config_in u).inputs n ≡ true
       → w ≡ put_changed (put_word u n (get_or (unit_in u).words n 0 % 256)) n 0 → Anew u w (group_in (config_in u).inputs n)

@@ -1,4 +1,6 @@
 // The points of the unit: what events, 20h/11h and a reply that carried contacts change in them, and an answer without data.
+#![tactic(auto)]
+
 mod changes;
 mod contacts;
 mod equipment;

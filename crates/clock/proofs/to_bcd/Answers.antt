@@ -1,0 +1,7 @@
+-- `clock::to_bcd` meets its contract: the sum is the definition.
+use Rattle.model.specs.Clock.{bcd}
+use Rattle.clock.proofs.to_bcd.Goals as goal
+
+pub returns : goal.returns
+unfolding bcd
+returns c = rw c.last_two-m.ensures
