@@ -1,4 +1,6 @@
 // WRITE, EXECUTE and READ over the blocks, which lie in the fixed area of a unit's memory and in the parameter block; the caller lends both.
+#![tactic(auto)]
+
 ghost use Rattle.std.specs.Prelude.{◌≡◌, false, ◌≤◌, length, get_or, eqb};
 ghost use Rattle.chars.specs.Put.{part};
 ghost use Rattle.chars.specs.Word.{word_at};
@@ -103,7 +105,7 @@ pub fn reaches<'a>(fixed: &'a [u8], block: &'a [u8], ordinal: Ordinal, bias: u16
 // ---- WRITE
 
 // How a WRITE ended, and what waits after it.
-#[derive(Drop)]
+#[derive(Clone, Copy)]
 pub struct Written {
     pub outcome: Outcome,
     pub write: Pending,
@@ -178,7 +180,7 @@ pub fn waits_after(pending: Pending, ms: u32) -> Pending
 // ---- EXECUTE
 
 // How an EXECUTE ended, and whether it has the unit configured or clears its error.
-#[derive(Drop)]
+#[derive(Clone, Copy)]
 pub struct Executed {
     pub outcome: Outcome,
     pub configures: bool,

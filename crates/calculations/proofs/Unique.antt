@@ -1,5 +1,4 @@
 -- Two ends of a call that meet its contract are equal: what each public function promises says everything. Assumes nothing.
-use mathlib.Core.Path.{◌≡◌, sym, ap, ◌∙◌}
 use Rattle.chars.specs.One.{One}
 use Rattle.model.proofs.Unique.{one_fill}
 use Rattle.calculations.proofs.scan.Reads as scan

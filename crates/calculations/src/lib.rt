@@ -1,4 +1,6 @@
 // Function 03: calculation values, all of them or those that are asked for, by a table of the numbers that are equipped now.
+#![tactic(auto)]
+
 ghost use Rattle.std.specs.Prelude.{◌≡◌, List, ℕ, ◌+◌, ◌*◌, ◌≤◌, length};
 ghost use Rattle.chars.specs.Gather.{Gathered, gather, up_from};
 ghost use Rattle.model.specs.Limits.{reply_head, longest_reply, most_asked};

@@ -1,4 +1,6 @@
 // Function 10h: select and operate, over the unit's one select; what breaks it off, and how it ages.
+#![tactic(auto)]
+
 ghost use Rattle.std.specs.Prelude.{◌≡◌};
 ghost use Rattle.model.specs.Frame.{asked};
 ghost use Rattle.model.specs.Control.{keeps, takes, select_when, operate_when, reset_when, select_of, control_of, operates, breaks, held_after};
@@ -10,7 +12,7 @@ use layout::{UNIT, has_output};
 use model::{Action, Age, ControlOutput, Frame, Hold, Master, Outcome, Reply, Select, aged};
 
 // How a control request ended: one action or none, the select after it, and how many characters of data stand in the reply buffer.
-#[derive(Drop)]
+#[derive(Clone, Copy)]
 pub struct Ran {
     pub outcome: Outcome,
     pub action: Action,

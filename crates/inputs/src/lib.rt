@@ -1,4 +1,6 @@
 // Function 00: the words of the equipped inputs of the chosen kinds, and the groups of contacts that its reply carried.
+#![tactic(auto)]
+
 ghost use Rattle.std.specs.Prelude.{◌≡◌, [], cond, ◌+◌, ◌*◌, ◌≤◌, length};
 ghost use Rattle.chars.specs.Gather.{Gathered, gather, up_from};
 ghost use Rattle.model.specs.Limits.{reply_head, longest_reply};

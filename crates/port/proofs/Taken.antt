@@ -1,5 +1,6 @@
--- The port of a unit's memory, taken from there, kept in a local that is lent, and put back: what the walks of `port::wait` and `port::hear` share.
---     lends_read, read-back    the memory behind the `&mut` is lent as a `&` for a lifetime of the call that reads it, and comes back
+-- The port of a unit's memory, taken from there, kept in a local that is lent, and put back: the steps of `port::wait` and `port::hear`, over the logic. No proof
+-- cites them: the check makes those of the two functions by itself.
+--     lends_read, read_back    the memory behind the `&mut` is lent as a `&` for a lifetime of the call that reads it, and comes back
 --     lends_port, port-back    the local is lent as a `&mut` for a lifetime of the call that changes it, and comes back at what lies there
 --     goes_in, reads_in        what `layout::port_in` asks for, and what it says
 --     goes_keep, gives_keep    what `layout::keep_port` asks for, and what it leaves of the memory, which is not needed again
@@ -8,8 +9,8 @@ use mathlib.Core.Path.{◌≡◌, refl, ap}
 use Prim.Native.Nat.{ℕ}
 use mathlib.Core.List.{List, [], ◌∷◌}
 use seplogic.Ra.Ura.{Ura}
-use seplogic.Ra.TreeShare.{full_share}
-use mir.Syntax.{named}
+use base.Fraction.{full_share}
+use mir.Syntax.{named, w8}
 use mir.Val.{Val, vunit, vptr}
 use base.Logic.{SProp, ent, sep, ex, guard, via, snd∗, ex_e, id⊢}
 use base.Fml.{GName, Lft, Share, Fml, ftrue, fsep, fat, flft, fdead, flent, fobor, fobs, fauth}
@@ -26,8 +27,9 @@ use denote.Laws.{Is, shows}
 use denote.Memory.{cell_at, part_at, part_of, mem}
 use denote.Plain.{Nothing}
 use denote.Builtin.{u8, Array}
-use denote.Ref.{MutBor, MutRef, ShrRef}
-use denote.Lend.{lends_ref, lends_shr}
+use denote.Ref.{Bor, MutBor, MutRef, ShrRef}
+use denote.Copied.{uint_Copied, Array-Copied}
+use denote.Lend.{lends_ref, lends_free}
 use denote.Steps.{only, owned, heard, nothing}
 use denote.Struct.Steps.{spelt}
 use denote.Struct.Laws as LL
@@ -86,22 +88,25 @@ module _ {M : Type 1} {𝓤 : Ura M} (𝓛 : Logic 𝓤) (κ : Lft) (q : Share) 
   abbrev at_name : GName → MutBor (List ℕ)
   at_name δ = record { ref_ptr = (b, o); ghost_name = δ; now = u }
 
+  abbrev at_place : Bor (List ℕ)
+  at_place = record { ref_ptr = (b, o); now = u }
+
   abbrev pub unit-own : Fml
   unit-own = (MutRef (named 0) κ U).own_val (at_name γ) (vptr b o ∷ [])
 
-  abbrev pub read-own : Lft → GName → Fml
-  read-own ν δ = (ShrRef (named 0) ν U).own_val (at_name δ) (vptr b o ∷ [])
+  abbrev pub read-own : Lft → Fml
+  read-own ν = (ShrRef (named 0) ν U).own_val at_place (vptr b o ∷ [])
 
   -- what its holder keeps while it is read
   abbrev pub Read : Lft → Fml
   Read ν = fsep (flent ν (part_at U full_share u b o)) (fsep (fobor κ q (Body (mem U) b o γ)) (fsep (fobs γ (U.coded.code u)) (fauth γ (U.coded.code u))))
 
-  pub lends_read : (ν : Lft) → ent 𝓤 (sep 𝓤 (sem 𝓛 unit-own) (A.lft κ q)) (H.⇛ (ex 𝓤 (λ (δ : GName). sep 𝓤 (sem 𝓛 (read-own ν δ)) (sem 𝓛 (Read ν)))))
+  pub lends_read : (ν : Lft) → ent 𝓤 (sep 𝓤 (sem 𝓛 unit-own) (A.lft κ q)) (H.⇛ (sep 𝓤 (sem 𝓛 (read-own ν)) (sem 𝓛 (Read ν))))
   lends_read ν =
       qed 𝓛 (‵ unit-own ∷ ‵ (flft κ q) ∷ []) ∵ updating ! $ fsplit3 ! $ feq_l ! (λ _. open_ref ! tt (mem U) $
-      use1 𝓛 (later (some (λ (δ : GName). ‵ (read-own ν δ) ⊛ ‵ (flent ν (part_at U full_share u b o))))) (lends_shr 𝓛 U (named 0) ν full_share u b o) $ await ! tt $ pick ! (λ δ. split ! $
+      use1 𝓛 (later (‵ (read-own ν) ⊛ ‵ (flent ν (part_at U full_share u b o)))) (lends_free 𝓛 U (named 0) ν full_share u b o ((Array-Copied 𝓛 u8 (uint_Copied 𝓛 w8) tt unit_figure).lends full_share u b o)) $ await ! tt $ split ! $
       -- [the `&`; the way back; the open borrow; obs; auth]
-      at_once ! $ show ! (λ (δ' : GName). sep 𝓤 (sem 𝓛 (read-own ν δ')) (sem 𝓛 (Read ν))) δ $ frame ! $ move ! (2 ∷ 3 ∷ []) $ fjoin ! $ move ! (2 ∷ 0 ∷ []) $ fjoin ! $ move ! (1 ∷ 0 ∷ []) $ fjoin ! $ done !))
+      at_once ! $ frame ! $ move ! (2 ∷ 3 ∷ []) $ fjoin ! $ move ! (2 ∷ 0 ∷ []) $ fjoin ! $ move ! (1 ∷ 0 ∷ []) $ fjoin ! $ done !)
 
   pub read_back : (ν : Lft) → ent 𝓤 (sep 𝓤 (A.dead ν) (sem 𝓛 (Read ν))) (H.⇛ (sep 𝓤 (sem 𝓛 unit-own) (A.lft κ q)))
   read_back ν =
@@ -110,15 +115,15 @@ module _ {M : Type 1} {𝓤 : Ura M} (𝓛 : Logic 𝓤) (κ : Lft) (q : Share) 
 
   module _ (at_mem : Memory → SProp 𝓤) (run : Routine → Fun 𝓤) where
     -- ---- `layout::port_in`, for a lifetime ν
-    abbrev pub to_in : Lft → GName → (In 𝓛 at_mem run).Ghost
-    to_in ν δ = (((ν, tt), (full_share, tt), tt, (at_name δ, tt), (vptr b o ∷ [], tt)), tt)
+    abbrev pub to_in : Lft → (In 𝓛 at_mem run).Ghost
+    to_in ν = (((ν, tt), (full_share, tt), tt, (at_place, tt), (vptr b o ∷ [], tt)), tt)
 
-    pub goes_in : (ν : Lft) (δ : GName) → ent 𝓤 (sep 𝓤 (A.lft ν full_share) (sem 𝓛 (read-own ν δ))) ((In 𝓛 at_mem run).pre (to_in ν δ))
-    goes_in ν δ =
-        qed 𝓛 (‵ (flft ν full_share) ∷ ‵ (read-own ν δ) ∷ []) ∵ nothing ! $ move ! (1 ∷ 0 ∷ []) $ join ! $ nothing ! $ move ! (2 ∷ 0 ∷ []) $ fjoin ! $ move ! (1 ∷ 0 ∷ []) $ join ! $ frame ! $ done !
+    pub goes_in : (ν : Lft) → ent 𝓤 (sep 𝓤 (A.lft ν full_share) (sem 𝓛 (read-own ν))) ((In 𝓛 at_mem run).pre (to_in ν))
+    goes_in ν =
+        qed 𝓛 (‵ (flft ν full_share) ∷ ‵ (read-own ν) ∷ []) ∵ nothing ! $ move ! (1 ∷ 0 ∷ []) $ join ! $ nothing ! $ move ! (2 ∷ 0 ∷ []) $ fjoin ! $ move ! (1 ∷ 0 ∷ []) $ join ! $ frame ! $ done !
 
-    pub reads_in : (ν : Lft) (δ : GName) (r : Port) → ent 𝓤 (ensured 𝓛 in-it.ended (in-it.clauses 𝓛 at_mem run) (ν, tt) (at_name δ, tt) tt r) (fact 𝓤 (r ≡ port_in (numbers_in u)))
-    reads_in ν δ r = ex_e 𝓤 _ (λ ws. snd∗ 𝓤 (sem 𝓛 (lasts in-it.ended (ν, tt) (at_name δ, tt) ws)) (fact 𝓤 (r ≡ port_in (numbers_in u))))
+    pub reads_in : (ν : Lft) (r : Port) → ent 𝓤 (ensured 𝓛 in-it.ended (in-it.clauses 𝓛 at_mem run) (ν, tt) (at_place, tt) tt r) (fact 𝓤 (r ≡ port_in (numbers_in u)))
+    reads_in ν r = ex_e 𝓤 _ (λ ws. snd∗ 𝓤 (sem 𝓛 (lasts in-it.ended (ν, tt) (at_place, tt) ws)) (fact 𝓤 (r ≡ port_in (numbers_in u))))
 
     -- ---- `layout::keep_port`, with the `&mut` itself
     module _ (h : Port) where
@@ -136,8 +141,8 @@ module _ {M : Type 1} {𝓤 : Ura M} (𝓛 : Logic 𝓤) (κ : Lft) (q : Share) 
       pub gives_keep : (v : Val) → ent 𝓤 ((Keep 𝓛 at_mem run).post to_keep v) (H.⇛ (ex 𝓤 (λ (zs : List ℕ). guard 𝓤 (Kept v zs) (sep 𝓤 (A.lft κ q) (A.res γ (U.coded.code zs))))))
       gives_keep v =
           qed 𝓛 (raw ((Keep 𝓛 at_mem run).post to_keep v) ∷ []) ∵ updating ! $
-          use1 𝓛 (later (some (λ (r : Unit {0}). ((‵ (flft κ q) ⊛ ‵ ftrue) ⊛ ‵ (Nothing.own r (v ∷ []))) ⊛ raw (ensured 𝓛 keeps.ended (keeps.clauses 𝓛 at_mem run) (κ, tt) (at_name γ, (h, tt)) tt r)))) (id⊢ 𝓤 _) $ await ! tt $ pick ! (λ r. split ! $ move ! (1 ∷ []) $
+          use1 𝓛 (later (some (λ (r : Unit {0}). ((‵ (flft κ q) ⊛ ‵ ftrue) ⊛ ‵ (Nothing.own_val r (v ∷ []))) ⊛ raw (ensured 𝓛 keeps.ended (keeps.clauses 𝓛 at_mem run) (κ, tt) (at_name γ, (h, tt)) tt r)))) (id⊢ 𝓤 _) $ await ! tt $ pick ! (λ r. split ! $ move ! (1 ∷ []) $
           use1 𝓛 (some (λ (ws : List ℕ × (Unit {0} × Unit {0})). ‵ (lasts keeps.ended (κ, tt) (at_name γ, (h, tt)) ws) ⊛ raw (fact 𝓤 (Renumbered u ws.0 (put_port h (numbers_in u)))))) (id⊢ 𝓤 _) $ pick ! (λ ws.
           split ! $ move ! (1 ∷ []) $ heard ! (Renumbered u ws.0 (put_port h (numbers_in u))) (λ e. fsplit ! $ move ! (2 ∷ []) $ split ! $ move ! (1 ∷ []) $ feq_l ! (λ z.
           -- [the token, and true; the last value; true]
-          at_once ! $ show ! (λ (zs : List ℕ). guard 𝓤 (Kept v zs) (sep 𝓤 (A.lft κ q) (A.res γ (U.coded.code zs)))) ws.0 $ check ! (ap only z, e) $ split ! $ keep ! (0 ∷ 2 ∷ []) $ done !))))
+          at_once ! $ show ! (λ (zs : List ℕ). guard 𝓤 (Kept v zs) (sep 𝓤 (A.lft κ q) (A.res γ (U.coded.code zs)))) ws.0 $ check ! (ap only z, e) $ split ! $ keep ! (0 ∷ 2 ∷ []) $ move ! (1 ∷ []) $ fsplit ! $ keep ! (2 ∷ 0 ∷ []) $ done !))))

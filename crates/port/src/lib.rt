@@ -1,5 +1,7 @@
 // The port's one rule, for elapsed time and for a stretch: by value, over a port that is lent, and over the port of a unit's memory, which
 // is taken from there, lent, and put back.
+#![tactic(auto)]
+
 ghost use Rattle.std.specs.Prelude.{◌≡◌};
 ghost use Rattle.model.specs.Port.{mark_after, silent_after};
 ghost use Rattle.layout.specs.Numbers.{port_in, put_port};

@@ -4,10 +4,10 @@ use Prim.Native.Nat.{ℕ, zero, suc, ◌+◌, ◌*◌, ◌-◌, ◌/◌, ◌%◌
 use native.Mathlib.Omega.{arith}
 use native.Mathlib.Decide.{dec_lt}
 use mathlib.Core.List.{List, [], ◌∷◌, ◌++◌}
-use mathlib.Core.Bool.{true, false, cond, ◌&&◌}
-use lib.ListN.{length, get_or, set, take, drop, length-take, length-drop, length-set, length-append}
+use mathlib.Core.Bool.{true, false, cond}
+use lib.ListN.{length, get_or, set, take, drop, length-take, length-drop, length-set}
 use lib.Seq.{take_all, take-take, get_or-set_same, get_or-set_other}
-use lib.Dec.{eqb, ltb, lit<}
+use lib.Dec.{lit<}
 use borrow.Author.Tests.{ne_eqb, lt-ltb, le-ltb}
 use Rattle.chars.specs.Put.{put, part}
 use Rattle.chars.specs.Gather.{gather, up_from, Gathered}
@@ -15,7 +15,7 @@ use Rattle.chars.proofs.PutLaws.{put-none, put_one, put_all, put_then, put-more}
 use Rattle.chars.proofs.WordLaws.{length-word}
 use Rattle.chars.proofs.GatherLaws.{gather-each, gather-more, gathered_more, length_up, up_none, up_next}
 use Rattle.model.specs.Limits.{reply_head}
-use Rattle.model.specs.Scan.{Scan, tells, refuses}
+use Rattle.model.specs.Scan.{tells, refuses}
 use Rattle.model.specs.Outcome.{number_of}
 use Rattle.model.specs.Tables.{table_of, sendable, word_in, send_of, table_scan, table_area}
 use Rattle.model.specs.Plans.{outcome_for, part_of, parts_of, plans_of, planned_part, planned_numbers, planned_scan}

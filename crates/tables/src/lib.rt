@@ -1,4 +1,6 @@
 // Function 0Ah: the scan of a table, with the two that its nibbles name, by the plain reading of the tables and by plans made of them.
+#![tactic(auto)]
+
 mod by_plan;
 mod plans;
 mod told;
@@ -27,7 +29,7 @@ pub use told::start_anew;
 const NO_START: u8 = 255;
 
 // ST1, ST2 and the table itself.
-#[derive(Drop)]
+#[derive(Clone, Copy)]
 struct Parts {
     one: Table,
     two: Table,
