@@ -1,20 +1,20 @@
 -- Demand 3 holds of every run of calls from C. Assumes nothing.
-use Prim.Native.Nat.{ℕ, ◌≤◌}
-use mathlib.Core.Path.{◌≡◌, refl, sym, ap, ap₂, ◌∙◌}
+use Prim.Native.Nat.{ℕ}
+use mathlib.Core.Path.{◌≡◌, refl, sym, ap, ◌∙◌}
 use mathlib.Core.List.{List, [], ◌∷◌, ◌++◌, map}
-use lib.ListN.{length, get_or}
+use lib.ListN.{get_or}
 use Rattle.model.specs.Config.{Config}
 use Rattle.model.specs.State.{Inner, State, held_in, fresh_of}
 use Rattle.model.specs.Event.{Stretch, Event, stretch}
-use Rattle.model.specs.Run.{Entry, Result, result_of, next_of, entry_of, after_from, trace_from, after, trace}
+use Rattle.model.specs.Run.{Entry, result_of, next_of, entry_of, after_from, trace_from, after, trace}
 use Rattle.model.specs.Demand3.{dropped_by}
 use Rattle.model.specs.Damage.{Damaged, AlikeEntry, AlikeTrace, none, more}
 use Rattle.model.proofs.Damage.{damage, after_append, trace_append}
 use Rattle.model.proofs.Demand3.{demand_3}
 use Rattle.layout.specs.Unit.{config_in, config_given}
-use Rattle.layout.specs.Kept.{Kept, Owned, kept_in, state_of}
+use Rattle.layout.specs.Kept.{Owned, kept_in, state_of}
 use Rattle.unit.specs.Calls.{results}
-use Rattle.board.specs.Told.{action_number, output_number}
+use Rattle.board.specs.Told.{action_number}
 use Rattle.board.specs.Runs.{Numbered, numbered}
 use Rattle.board.specs.Demand3.{Called, inner_lent, held_lent, dropped_lent, AlikeShown, AlikeRun, none as noneShown, more as moreShown, UnseenCall, Accounts, AccountsFor, CallsDemand3}
 use Rattle.board.proofs.RunLaws.{run_config, run_after, run_trace, run_taken}

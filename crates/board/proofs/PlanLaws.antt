@@ -5,7 +5,7 @@ use Prim.Native.Nat.{ℕ}
 use mathlib.Core.List.{List}
 use lib.Dec.{lit<}
 use Rattle.model.specs.Config.{Config}
-use Rattle.model.specs.State.{Areas, State}
+use Rattle.model.specs.State.{State}
 use Rattle.model.specs.Event.{Event}
 use Rattle.model.specs.Tables.{table_area}
 use Rattle.model.specs.Plans.{plans_of}

@@ -5,7 +5,7 @@ use mathlib.Core.List.{List, [], ◌∷◌, map}
 use mathlib.Core.Bool.{true}
 use lib.ListN.{length}
 use native.Mathlib.Omega.{arith}
-use Rattle.model.specs.Outcome.{number_of, answer_number, stored_number}
+use Rattle.model.specs.Outcome.{answer_number}
 use Rattle.model.specs.Config.{Config, valid_of}
 use Rattle.model.specs.State.{State, fresh_of}
 use Rattle.model.specs.Fits.{fits}
@@ -15,7 +15,6 @@ use Rattle.model.specs.Event.{set_word, set_value, pulses, store, contact, sampl
 use Rattle.model.specs.Step.{quiet, elapsed_made, local_made, word_made, value_made, contact_made, store_made, local_of, make_of}
 use Rattle.model.specs.Run.{Result, short, decided, turned_away, shows, result_of, next_of, entry_of, after_from, trace_from, after, trace}
 use Rattle.model.specs.declared.SpecialCalculation.{SpecialCalculation}
-use Rattle.model.specs.declared.Outcome.TheVariants.{NotConfigured}
 use Rattle.model.specs.declared.Answer.{Answer}
 use Rattle.model.specs.declared.Answer.TheVariants.{Ended, Storing, Sampling}
 use Rattle.model.specs.declared.Stored.TheVariants.{Kept as KeptRecord, Swapped, Full, NotEquipped, WrongValues}
@@ -24,7 +23,7 @@ use Rattle.model.proofs.TurnedAway.{short_away, works, made_row}
 use Rattle.model.proofs.Valid.{fresh-fits, step_fits}
 use Rattle.layout.specs.Unit.{config_in, config_given}
 use Rattle.layout.specs.Records.{room_of}
-use Rattle.layout.specs.Kept.{Kept, state_of, Owned, owned_of, kept_in, standing}
+use Rattle.layout.specs.Kept.{state_of, Owned, owned_of, kept_in, standing}
 use Rattle.unit.specs.Fresh.{FreshPromise}
 use Rattle.unit.specs.Calls.{NoStretch, results as resultsOf, Calls, none as noCalls, heard as heardCall, heeded as heededCall}
 use Rattle.unit.proofs.FreshLaws.{laid-config, laid-state, laid-stands}

@@ -15,7 +15,7 @@ use Rattle.serve.specs.declared.Made.{Made}
 use Rattle.unit.specs.Calls.{made_shown}
 use Rattle.model.specs.declared.Answer.{Answer}
 use Rattle.board.specs.Told.{turned_by, action_number, output_number, missing_number, bits_number, sampled_by}
-use Rattle.board.specs.Runs.{Numbered, numbered, unsampled, numbers_shown}
+use Rattle.board.specs.Runs.{numbered, unsampled, numbers_shown}
 
 -- ---- the output action
 

@@ -1,8 +1,8 @@
 -- A fresh unit is taken where its configuration is valid. Assumes nothing.
 use mathlib.Core.Path.{◌≡◌, refl, sym, ap, ◌∙◌}
-use Prim.Native.Nat.{ℕ, zero, suc, ◌<◌}
+use Prim.Native.Nat.{ℕ, zero, suc}
 use native.Mathlib.Omega.{arith}
-use mathlib.Core.List.{List, [], ◌∷◌}
+use mathlib.Core.List.{List, []}
 use mathlib.Core.Bool.{true, false, cond}
 use lib.ListN.{length, get_or, replicate, length-replicate}
 use borrow.Author.Tests.{le-leb, eq-eqb}
@@ -14,9 +14,9 @@ use Rattle.model.specs.Fits.{fits}
 use Rattle.model.specs.declared.Memory.TheVariants.{Nothing}
 use Rattle.model.proofs.Conditions.{by_bool}
 use Rattle.model.proofs.Valid.{fresh-fits}
-use Rattle.layout.specs.Numbers.{numbers_of, core_in, memory_in, port_in, readable}
+use Rattle.layout.specs.Numbers.{core_in, memory_in, port_in, readable}
 use Rattle.layout.proofs.NumbersLaws.{written-readable}
-use Rattle.layout.specs.Unit.{Unit, unit_in, config_in, numbers_in, config_given}
+use Rattle.layout.specs.Unit.{Unit, config_in, numbers_in, config_given}
 use Rattle.layout.specs.Records.{room_of}
 use Rattle.layout.specs.Judged.{fits_by, fits_in}
 use Rattle.layout.proofs.JudgedLaws.{fits_by_lem}

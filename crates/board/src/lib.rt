@@ -1,5 +1,7 @@
 // The C interface: one call an event, over numbers and memory that the caller owns. No enum crosses it, so that every pattern of
 // what it takes means something.
+#![tactic(auto)]
+
 mod answers;
 
 ghost use Rattle.std.specs.Prelude.{◌≡◌, cond, length, get_or};

@@ -1,6 +1,6 @@
 -- What every function says fits a reply, and is answered. Assumes nothing.
 use mathlib.Core.Path.{◌≡◌, refl, sym, ◌∙◌}
-use Prim.Native.Nat.{ℕ, ◌≤◌, ◌+◌, ◌*◌, ◌<◌, min}
+use Prim.Native.Nat.{ℕ, ◌≤◌, ◌*◌, ◌<◌, min}
 use native.Mathlib.Omega.{arith}
 use mathlib.Core.List.{List, []}
 use mathlib.Core.Bool.{true, Bool, false, ◌&&◌, beq}

@@ -10,7 +10,7 @@ use Rattle.model.specs.History.{history_of}
 use Rattle.model.specs.Step.{scanned, Stepped, telling}
 use Rattle.model.specs.declared.Action.TheVariants.{Rest}
 use Rattle.model.specs.declared.Filled.{Filled}
-use Rattle.layout.specs.Numbers.{memory_in, port_in, readable}
+use Rattle.layout.specs.Numbers.{port_in, readable}
 use Rattle.layout.specs.Records.{files_in, packed}
 use Rattle.history.specs.Tell.{ServePromise}
 use Rattle.model.specs.Change.{Change}

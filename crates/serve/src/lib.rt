@@ -1,4 +1,6 @@
 // A stretch: the order of outcomes, one dispatch over the functions, one ending for every frame.
+#![tactic(auto)]
+
 mod ahead;
 mod broadcast;
 mod commands;
@@ -13,7 +15,7 @@ pub use line::stretch;
 use model::{Action, Outcome};
 
 // How a stretch ended: the outcome, the output action, and how many characters of the buffer are to be sent.
-#[derive(Drop)]
+#[derive(Clone, Copy)]
 pub struct Made {
     pub outcome: Outcome,
     pub action: Action,

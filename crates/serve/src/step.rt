@@ -4,7 +4,7 @@ ghost use Rattle.std.specs.Prelude.{◌≡◌};
 use model::{Action, Filled, Outcome};
 
 // With how many characters of data stand in the buffer.
-#[derive(Drop)]
+#[derive(Clone, Copy)]
 pub struct Step {
     pub outcome: Outcome,
     pub action: Action,

@@ -1,5 +1,5 @@
 -- The mean of samples where they lie, and one sample more there. Assumes nothing.
-use Rattle.std.proofs.Common.{◌≡◌, ℕ, zero, suc, ◌+◌, ◌-◌, ◌*◌, ◌/◌, ◌%◌, ◌^◌, ◌<◌, ◌≤◌, Bool, true, false, cond, not, T, ltb, List, [], ◌∷◌, ◌++◌, length, get_or, drop, set, ℤ, pos, negsuc, ◌-ℤ◌, nat_abs, sym, refl, ap, ◌∙◌, subst, add-one, arith, le→leb, lt→ltb, length-append, get_or-drop, pow_pos, w32, SFits, to_z, of_z, ltb-false, ltb-true, le-ltb, lt-ltb}
+use Rattle.std.proofs.Common.{◌≡◌, ℕ, zero, suc, ◌+◌, ◌-◌, ◌*◌, ◌/◌, ◌%◌, ◌^◌, ◌<◌, ◌≤◌, Bool, true, cond, not, T, ltb, List, [], ◌∷◌, ◌++◌, length, get_or, drop, set, ℤ, pos, negsuc, ◌-ℤ◌, nat_abs, sym, refl, ap, ◌∙◌, subst, add-one, arith, le→leb, lt→ltb, length-append, get_or-drop, pow_pos, w32, SFits, to_z, of_z, ltb-false, ltb-true, le-ltb, lt-ltb}
 use native.Mathlib.Decide.{dec_lt}
 use lib.Ieee.{Float, binary32, in_float, of_int, of_bits, of_fields, round, add, div, is_nan, to_bits}
 use mir.ValLaws.{to_z_pos, to_z-of_z}

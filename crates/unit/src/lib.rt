@@ -1,4 +1,6 @@
 // The entries of a unit, over all that its owner lends: fresh, a stretch, time, and the local events.
+#![tactic(auto)]
+
 mod local;
 mod samples;
 mod start;

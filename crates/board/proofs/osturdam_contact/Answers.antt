@@ -1,0 +1,5 @@
+-- `board::osturdam_contact` meets its contract. Assumes nothing.
+use Rattle.board.proofs.osturdam_contact.Goals as goal
+
+pub returns : goal.returns
+returns c = record { answer = _; tells = c.contact-outcome.ensures; said = c.number.ensures }

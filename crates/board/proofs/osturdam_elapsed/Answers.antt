@@ -1,0 +1,5 @@
+-- `board::osturdam_elapsed` meets its contract. Assumes nothing.
+use Rattle.board.proofs.osturdam_elapsed.Goals as goal
+
+pub returns : goal.returns
+returns c = record { answer = _; tells = c.elapsed-outcome.ensures; said = c.number.ensures }

@@ -1,0 +1,5 @@
+-- `board::osturdam_pulses` meets its contract. Assumes nothing.
+use Rattle.board.proofs.osturdam_pulses.Goals as goal
+
+pub returns : goal.returns
+returns c = record { answer = _; tells = c.pulses-outcome.ensures; said = c.number.ensures }

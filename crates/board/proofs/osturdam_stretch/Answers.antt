@@ -1,0 +1,12 @@
+-- `board::osturdam_stretch` meets its contract. Assumes nothing.
+use Rattle.board.proofs.ToldLaws.{turned_told}
+use Rattle.board.proofs.osturdam_stretch.Goals as goal
+
+pub returns : goal.returns
+returns c =
+    record {
+      turn = c.stretch-turn.result;
+      serves = c.stretch-turn.ensures;
+      number = c.number.ensures;
+      told = turned_told c.stretch-turn.result c.action_number.ensures c.output_number.ensures;
+    }
