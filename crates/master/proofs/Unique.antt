@@ -1,5 +1,5 @@
 -- Two ends of a call that meet its contract are equal: what each public function promises says everything. Assumes nothing.
-use mathlib.Core.Path.{◌≡◌, sym, ◌∙◌}
+use mathlib.Core.Path.{sym, ◌∙◌}
 use Rattle.chars.specs.One.{One}
 use Rattle.master.proofs.memory.retry.Reads as retry
 use Rattle.master.proofs.request.begin.Reads as begin

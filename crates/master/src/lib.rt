@@ -1,4 +1,6 @@
 // The master's side: requests built and replies read, over one memory for each unit polled, which the caller lends.
+#![tactic(auto)]
+
 mod ask;
 mod believe;
 mod memory;
@@ -53,7 +55,7 @@ const DATA: usize = LENGTH + 2;
 pub const POLL: usize = DATA + MOST;
 
 // How a call that reads ended: the reply was judged; the memory is out of range; the room cannot hold the records of any reply.
-#[derive(Drop)]
+#[derive(Clone, Copy)]
 pub enum Reading {
     Judged(Read),
     NotConfigured,
@@ -61,7 +63,7 @@ pub enum Reading {
 }
 
 // With how many records were kept, and how many characters each has.
-#[derive(Drop)]
+#[derive(Clone, Copy)]
 pub struct Taken {
     pub reading: Reading,
     pub count: u8,

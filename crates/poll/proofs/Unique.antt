@@ -1,5 +1,5 @@
 -- Two ends of a call that meet its contract are equal: what each public function promises says everything. Assumes nothing.
-use mathlib.Core.Path.{◌≡◌, sym, ◌∙◌}
+use mathlib.Core.Path.{sym, ◌∙◌}
 use Rattle.chars.specs.One.{One}
 use Rattle.poll.proofs.osturdam_poll_begin.Reads as osturdam-poll-begin
 use Rattle.poll.proofs.osturdam_poll_ask.Reads as osturdam-poll-ask

@@ -1,5 +1,7 @@
 // The C interface of a master: a call for each thing that it does, over numbers and memory that the caller owns. No enum crosses it, so
 // that every pattern of what it takes means something.
+#![tactic(auto)]
+
 ghost use Rattle.std.specs.Prelude.{◌≡◌, [], ◌∷◌, cond, not, length, get_or, eqb};
 ghost use Rattle.chars.specs.Put.{put};
 ghost use Rattle.master.specs.Polled.{retry_at};
