@@ -1,13 +1,13 @@
 // Lines from standard input and to standard output, in fixed memory: characters are read and written many at a time.
-ghost use Rattle.std.specs.Prelude.{◌≡◌, false, ◌+◌, ◌≤◌, ◌<◌, length};
+ghost use Rattle.std.specs.Prelude.{◌≡◌, ◌+◌, ◌≤◌, ◌<◌, length};
 ghost use Rattle.bench.specs.Flow.{Flows};
 
-use libc::{STDIN_FILENO, STDOUT_FILENO};
+use std::io::{Read, Write};
 
 // How far reading and writing are. Of the characters read those from `at` to `held` are still to be taken. Of a line `length` characters
 // are kept, 2,001 of one that is too long; `whole` says that it is complete. `number` lines were answered, `waiting` characters are still
 // to be written, and with `over` nothing more is read.
-#[derive(Drop)]
+#[derive(Clone, Copy)]
 pub struct Flow {
     pub at: usize,
     pub held: usize,
@@ -49,12 +49,12 @@ pub fn answered(flow: Flow, count: usize) -> Flow
 }
 
 // Where writing fails the run is over: what comes later would not follow on what was shown.
-pub fn write_out(shown: &[u8], flow: Flow) -> Flow
+pub fn write_out<O: Write>(output: &mut O, shown: &[u8], flow: Flow) -> Flow
     requires { Flows flow × (length shown.now ≡ 65536) }
     ensures { Flows result × (result.number ≡ flow.number) }
 {
     let waiting = flow.waiting;
-    let done = io::write_all(STDOUT_FILENO, &shown[..waiting]);
+    let done = output.write_all(&shown[..waiting]).is_ok();
     Flow {
         at: flow.at,
         held: flow.held,
@@ -67,16 +67,22 @@ pub fn write_out(shown: &[u8], flow: Flow) -> Flow
 }
 
 // What waits is written before more is read, so that whoever writes lines by hand sees each answered. A last line needs no line end.
-fn read_on(read: &mut [u8], shown: &[u8], flow: Flow) -> Flow
+// A read that fails ends the input.
+fn read_on<I: Read, O: Write>(
+    input: &mut I,
+    output: &mut O,
+    read: &mut [u8],
+    shown: &[u8],
+    flow: Flow,
+) -> Flow
     requires { Flows flow × (length read.old ≡ 65536) × (length shown.now ≡ 65536) }
     ensures { Flows result × (result.number ≡ flow.number) }
 {
-    let next = write_out(shown, flow);
+    let next = write_out(output, shown, flow);
     if next.over {
         return next;
     }
-    let got = libc::read(STDIN_FILENO, read);
-    let held = io::count(got, read);
+    let held = input.read(read).unwrap_or(0);
     let long = next.length;
     Flow {
         at: 0,
@@ -130,15 +136,22 @@ fn gather(read: &[u8], line: &mut [u8], flow: Flow) -> Flow
 const ROOM: usize = 2048;
 
 // One of three: what waits is written where a further line might not fit, characters are taken, or more are read.
-pub fn step(read: &mut [u8], line: &mut [u8], shown: &[u8], flow: Flow) -> Flow
+pub fn step<I: Read, O: Write>(
+    input: &mut I,
+    output: &mut O,
+    read: &mut [u8],
+    line: &mut [u8],
+    shown: &[u8],
+    flow: Flow,
+) -> Flow
     requires { Flows flow × (length read.old ≡ 65536) × (length line.old ≡ 2001) × (length shown.now ≡ 65536) }
     ensures { Flows result × (result.number ≡ flow.number) }
 {
     if 65536 - ROOM < flow.waiting {
-        return write_out(shown, flow);
+        return write_out(output, shown, flow);
     }
     if flow.at < flow.held {
         return gather(read, line, flow);
     }
-    read_on(read, shown, flow)
+    read_on(input, output, read, shown, flow)
 }

@@ -1,5 +1,5 @@
 -- Two ends of a call that meet its contract are equal: what each public function promises says everything. Assumes nothing.
-use mathlib.Core.Path.{◌≡◌, sym, ap, ◌∙◌}
+use mathlib.Core.Path.{sym, ◌∙◌}
 use Rattle.chars.specs.One.{One}
 use Rattle.lines.proofs.read_line.Reads as read-line
 use Rattle.lines.proofs.write_line.Reads as write-line

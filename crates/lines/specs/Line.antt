@@ -1,5 +1,5 @@
 -- The lines of the bench program: what one says, and what is printed for it (document 01, Bench cases).
-use Rattle.std.specs.Prelude.{ℕ, zero, suc, ◌+◌, ◌-◌, ◌*◌, ◌/◌, ◌%◌, List, [], ◌∷◌, ◌++◌, Bool, true, cond, ◌&&◌, length, leb, ltb, eqb}
+use Rattle.std.specs.Prelude.{ℕ, zero, suc, ◌+◌, ◌-◌, ◌*◌, ◌/◌, ◌%◌, List, [], ◌∷◌, ◌++◌, Bool, cond, ◌&&◌, length, leb, ltb, eqb}
 use Rattle.chars.specs.Gather.{gather, every}
 use Rattle.lines.specs.declared.Line.{Line}
 

@@ -1,4 +1,6 @@
 // The lines of the bench program, on slices: what a line says is read, and what is printed for it written.
+#![tactic(auto)]
+
 ghost use Rattle.std.specs.Prelude.{◌≡◌, true, [], ◌∷◌, ◌+◌, ◌-◌, ◌<◌, ◌≤◌, min, length, drop};
 ghost use Rattle.chars.specs.Put.{put};
 ghost use Rattle.chars.specs.Gather.{gather, every};
@@ -6,7 +8,7 @@ ghost use Rattle.lines.specs.Line.{hex_val, is_hex, pairs, stretch_of, time_said
 ghost use Rattle.lines.specs.Wrote.{Wrote};
 
 // What a line says: a stretch of so many characters, which stand in the lent memory; so many milliseconds; or another form.
-#[derive(Drop)]
+#[derive(Clone, Copy)]
 pub enum Line {
     Stretch(usize),
     Time(u32),
