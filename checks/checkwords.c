@@ -1,9 +1,9 @@
 /* Prints the check word of each line on standard input, by the proved library: a start in four digits of hex, then the characters' parts, each
  * behind a colon and checked from the check of what stands before it. */
+#include "osturdam.h"
+
 #include <stdint.h>
 #include <stdio.h>
-
-uint16_t check_word(uint16_t start, const uint8_t *s, size_t n);
 
 static int digit(int c)
 {
@@ -22,7 +22,7 @@ int main(void)
             s[digits / 2] = (uint8_t)(digits % 2 ? s[digits / 2] + d : 16 * d);
             digits++;
         } else if ((c == ':' || (c == '\n' && started)) && (started ? digits % 2 == 0 : digits == 4)) {
-            check = started ? check_word(check, s, digits / 2) : (uint16_t)(256 * s[0] + s[1]);
+            check = started ? osturdam_check(check, s, digits / 2) : (uint16_t)(256 * s[0] + s[1]);
             started = c == ':';
             digits = 0;
             if (!started)

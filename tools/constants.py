@@ -1,5 +1,5 @@
-"""Constant arrays as read-only data. The language has no static, so the toolchain's module lays a constant array out where it is used, a
-store for each element; the compiler never takes that for a constant, and the array then lies on the stack at every call. A function that
+"""Constant arrays as read-only data. The toolchain's module lays a constant array out where it is used: all of it is cleared, and then
+a store comes for each element. The compiler never takes that for a constant, and the array then lies on the stack at every call. A function that
 only lays a constant out and hands it back is made to copy it from read-only data instead, of which the compiler leaves no copy."""
 import re
 
@@ -7,6 +7,7 @@ STORE = r'  (?:%r\d+ = getelementptr i8, ptr %r0, i64 \d+|store i\d+ -?\d+, ptr 
 LAID = re.compile(r'''^define internal void @(?P<name>"[^"]+"|[\w.]+)\(ptr noundef %a0\) (?P<marks>#\d+) \{
 start:
   %r0 = alloca \[(?P<size>\d+) x i8\], align (?P<align>\d+)
+  call void @llvm\.memset\.p0\.i64\(ptr %r0, i8 0, i64 (?P=size), i1 false\)
 (?P<stores>(?:STORE)+)  call void @llvm\.memmove\.p0\.p0\.i64\(ptr %a0, ptr %r0, i64 (?P=size), i1 false\)
   ret void
 \}

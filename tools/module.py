@@ -2,8 +2,10 @@
 so that a toolchain that makes modules of another kind is told, and no library comes of it."""
 import re
 
-# what is called, besides the library's own functions: arithmetic, and what a compiler may call for any C program
-CALLED = r'llvm\.(memmove\.p0\.p0\.i64|memset\.p0\.i64|memcpy\.p0\.p0\.i64|ctpop\.i\d+|trap|bswap\.i\d+|[us](min|max)\.i\d+|fsh[lr]\.i\d+|ct[lt]z\.i\d+)'
+# what is called, besides the library's own functions: arithmetic, a wall that keeps each step of floats as it is written, and what a compiler
+# may call for any C program
+CALLED = (r'llvm\.(arithmetic\.fence\.f32|memmove\.p0\.p0\.i64|memset\.p0\.i64|memcpy\.p0\.p0\.i64|ctpop\.i\d+|trap|bswap\.i\d+|[us](min|max)\.i\d+|'
+          r'fsh[lr]\.i\d+|ct[lt]z\.i\d+)')
 # what the library's calls take and return: a number or a pointer in its own place, never a structure
 GIVEN = r'(ptr|i1|i8|i16|i32|i64) noundef %\w+'
 ANSWERED = r'void|noundef (zeroext i1|i8|i16|i32|i64)'
@@ -11,7 +13,7 @@ ANSWERED = r'void|noundef (zeroext i1|i8|i16|i32|i64)'
 KEPT = r'i8|i16|i32|i64|float|ptr|\[\d+ x i8\]'
 # floats of another length, or leave to reckon with floats otherwise than IEEE 754 says
 OTHER_FLOATS = r'double|half|bfloat|fp128|x86_fp80|fast|nnan|ninf|nsz|arcp|contract|afn|reassoc|fpmath'
-OF_X86 = ' "probe-stack"="inline-asm" "target-cpu"="x86-64"'
+OF_X86 = '"probe-stack"="inline-asm" "stack-probe-size"="3072" "target-cpu"="x86-64"'
 
 
 class Refused(Exception):

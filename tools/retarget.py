@@ -19,7 +19,7 @@ import tempfile
 
 sys.dont_write_bytecode = True
 from constants import laid_as_data  # noqa: E402
-from module import Refused, judge  # noqa: E402
+from module import OF_X86, Refused, judge  # noqa: E402
 
 # the machines by the first part of their triples, each with what its library is compiled for if nothing else is said. On Arm floats are the
 # compiler's own routines then: not every core has a unit for them, and after a reset it is off
@@ -39,7 +39,7 @@ MACHINES = {
 OTHERS = ('--target=', '-march=', '-fPIC', '-O', '--sysroot=')
 SMALL = {'-Os': 'optsize', '-Oz': 'optsize minsize'}
 # small code has more functions in line than the compiler puts there by itself: these hand over no structure by memory, which is less code and stack
-IN_LINE = ['-mllvm', '-inline-threshold=250']
+IN_LINE = ['-mllvm', '-inline-threshold=300']
 
 
 def run(what, *command, **more):
@@ -54,8 +54,7 @@ class Toolchain:
 
     def __init__(self):
         told = run('rt doc', 'rt', 'doc').decode().strip()
-        home = os.environ.get('RATTLE_HOME') or os.path.dirname(os.path.dirname(os.path.realpath(told)))
-        self.folder = os.path.join(home, 'on', os.uname().machine, 'toolchain', 'bin')
+        self.folder = os.path.join(os.path.dirname(os.path.realpath(told)), 'toolchain', 'bin')
         for tool in ('clang', 'llvm-ar'):
             if not os.access(self.tool(tool), os.X_OK):
                 raise Refused(f'the toolchain has another shape than was known: there is no {self.tool(tool)}')
@@ -133,7 +132,7 @@ def retargeted(text, triple, layout, small):
     """The module's text for the machine."""
     text = re.sub(r'^target datalayout = ".*"$', f'target datalayout = "{layout}"', text, flags=re.M)
     text = re.sub(r'^target triple = ".*"$', f'target triple = "{triple}"', text, flags=re.M)
-    text = text.replace('"probe-stack"="inline-asm" "target-cpu"="x86-64"', small)
+    text = text.replace(OF_X86, small)
     if triple.startswith('riscv64'):
         text = text.replace('\ndefine noundef i32 @', '\ndefine noundef signext i32 @')  # whatever its sign, that machine says
     text = re.sub(r'^define noundef (i8|i16) @', r'define noundef zeroext \1 @', text, flags=re.M)

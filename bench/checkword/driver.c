@@ -1,13 +1,13 @@
 // Calls each of the three functions once on n fixed characters, from the start given or from 0; its answers must be those of the bitwise
 // division. Where cycles are asked for, they are told.
 #include "cycles.h"
+#include "osturdam.h"
 
 #include <stddef.h>
 #include <stdint.h>
 #include <stdio.h>
 #include <stdlib.h>
 
-uint16_t check_word(uint16_t start, const uint8_t *s, size_t n);
 uint16_t c_check_word(uint16_t start, const uint8_t *s, size_t n);
 uint16_t rust_check_word(uint16_t start, const uint8_t *s, size_t n);
 
@@ -43,11 +43,11 @@ int main(int argc, char **argv)
         s[i] = seed >> 16;
     }
     if (cycles_asked()) {
-        TELL_CYCLES("check_word", , check_word(start, s, n));
+        TELL_CYCLES("osturdam_check", , osturdam_check(start, s, n));
         TELL_CYCLES("c_check_word", , c_check_word(start, s, n));
         TELL_CYCLES("rust_check_word", , rust_check_word(start, s, n));
     }
     uint16_t right = bitwise(start, s, n);
-    return wrong("check_word", check_word(start, s, n), right) || wrong("C", c_check_word(start, s, n), right) ||
+    return wrong("osturdam_check", osturdam_check(start, s, n), right) || wrong("C", c_check_word(start, s, n), right) ||
            wrong("Rust", rust_check_word(start, s, n), right);
 }
