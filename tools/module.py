@@ -13,6 +13,8 @@ ANSWERED = r'void|noundef (zeroext i1|i8|i16|i32|i64)'
 KEPT = r'i8|i16|i32|i64|float|ptr|\[\d+ x i8\]'
 # floats of another length, or leave to reckon with floats otherwise than IEEE 754 says
 OTHER_FLOATS = r'double|half|bfloat|fp128|x86_fp80|fast|nnan|ninf|nsz|arcp|contract|afn|reassoc|fpmath'
+# a structure read from memory has two parts, each a number or a pointer
+TWO_PARTS = r'^  (%[\w.]+) = load \{ (i8|i16|i32|i64|ptr), (i8|i16|i32|i64|ptr) \}, ptr (%[\w.]+), align \d+$'
 OF_X86 = '"probe-stack"="inline-asm" "stack-probe-size"="3072" "target-cpu"="x86-64"'
 
 
@@ -41,6 +43,8 @@ def judge_memory(text):
     for kind in set(re.findall(r'= alloca ([^,\n]+)', text)):
         if not re.fullmatch(KEPT, kind):
             refuse(f'memory is set aside for {kind}')
+    if re.search(r'^  store \{', text, re.M) or len(re.findall(r'= load [{<[]', text)) != len(re.findall(TWO_PARTS, text, re.M)):
+        refuse('a structure is in memory as a whole')
     for body in text.split('\n}\n'):
         pointers = set(re.findall(r'(%\w+) = alloca ptr', body))
         for moved in re.findall(r'call void @llvm\.mem\w+[^(]*\((.*)\)', body):

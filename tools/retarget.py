@@ -7,8 +7,8 @@ usage: tools/retarget.py [--library NAME] FROM TO TRIPLE [WORDS...]    FROM has 
 
 Of the module's text only this is changed: triple and data layout, which the compiler itself tells of the machine; what was said of x86-64;
 the wish for small code; that numbers of 8 and 16 bits are returned with nothing above them, as C on most machines expects and on x86-64
-does not; and that constant arrays are read-only data (tools/constants.py). What the module must be for this to mean the same is looked at
-first (tools/module.py).
+does not; and that the two parts of a structure are read one by one, from where they lie on x86-64. What the module must be for this to mean
+the same is looked at first (tools/module.py).
 """
 import hashlib
 import os
@@ -18,8 +18,7 @@ import sys
 import tempfile
 
 sys.dont_write_bytecode = True
-from constants import laid_as_data  # noqa: E402
-from module import OF_X86, Refused, judge  # noqa: E402
+from module import OF_X86, TWO_PARTS, Refused, judge  # noqa: E402
 
 # the machines by the first part of their triples, each with what its library is compiled for if nothing else is said. On Arm floats are the
 # compiler's own routines then: not every core has a unit for them, and after a reset it is off
@@ -128,6 +127,19 @@ def machine(tools, triple, words):
     return whole, layout
 
 
+LENGTHS = {'i8': 1, 'i16': 2, 'i32': 4, 'i64': 8, 'ptr': 8}
+
+
+def part_by_part(load):
+    """A structure of two parts, read from memory in which they lie as on x86-64."""
+    made, one, other, source = load.groups()
+    place = max(LENGTHS[one], LENGTHS[other])
+    return '\n'.join((
+        f'  {made}.one = load {one}, ptr {source}, align 1', f'  {made}.place = getelementptr i8, ptr {source}, i64 {place}',
+        f'  {made}.other = load {other}, ptr {made}.place, align 1', f'  {made}.half = insertvalue {{ {one}, {other} }} poison, {one} {made}.one, 0',
+        f'  {made} = insertvalue {{ {one}, {other} }} {made}.half, {other} {made}.other, 1'))
+
+
 def retargeted(text, triple, layout, small):
     """The module's text for the machine."""
     text = re.sub(r'^target datalayout = ".*"$', f'target datalayout = "{layout}"', text, flags=re.M)
@@ -136,7 +148,7 @@ def retargeted(text, triple, layout, small):
     if triple.startswith('riscv64'):
         text = text.replace('\ndefine noundef i32 @', '\ndefine noundef signext i32 @')  # whatever its sign, that machine says
     text = re.sub(r'^define noundef (i8|i16) @', r'define noundef zeroext \1 @', text, flags=re.M)
-    return laid_as_data(text)
+    return re.sub(TWO_PARTS, part_by_part, text, flags=re.M)
 
 
 def compiled(tools, module, text, triple, words, to):

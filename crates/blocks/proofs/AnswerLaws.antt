@@ -10,10 +10,10 @@ use borrow.Author.Tests.{eq-eqb, ne_eqb}
 use Rattle.chars.specs.Put.{put, part}
 use Rattle.chars.specs.Word.{word_at}
 use Rattle.chars.proofs.PutLaws.{length_part, part-whole}
-use Rattle.model.specs.Limits.{reply_head, most_asked}
+use Rattle.model.specs.Limits.{reply_head}
 use Rattle.model.specs.Frame.{Request}
 use Rattle.model.specs.Scan.{Fills, counts}
-use Rattle.model.specs.Blocks.{ordinal_start, block_of, reaches, not_executed, executes, returned, read_of}
+use Rattle.model.specs.Blocks.{ordinal_start, block_of, reaches, not_executed, executes, read_of}
 use Rattle.model.specs.declared.Outcome.{Outcome}
 use Rattle.model.specs.declared.Outcome.TheVariants.{Done, NotValid}
 use Rattle.layout.specs.Unit.{unit_in, put_fixed}
@@ -74,14 +74,6 @@ module _ (u block : List ℕ) (o bias : ℕ) (ys : List ℕ) (r : Executed) wher
       })
 
 -- ---- READ
-
--- a refusal, with the request's data
-pub sent_back : (o : Outcome) (q : Request) (back entry exit : List ℕ) → back ≡ part q.body 0 most_asked
-    → exit ≡ put entry reply_head (part back 0 (length back))
-    → Fills entry exit (returned o q) (record { outcome = o; count = length back })
-unfolding returned
-sent_back o q back entry exit e k =
-    record { ended = refl; counted = ap length e; written = k ∙ ap (put entry reply_head) (part-whole back (length back) refl ∙ e) }
 
 -- the characters asked for
 pub found_as : (fixed block : List ℕ) (q : Request) (entry exit found : List ℕ) (bias n : ℕ) → length q.body ≡ 4 → bias ≡ word_at q.body 0

@@ -1,4 +1,4 @@
--- Laws of the blocks: a part that its area cuts short, the ordinals that there are, and what an EXECUTE leaves in each block.
+-- Laws of the blocks: the ordinals that there are, and what an EXECUTE leaves in each block.
 -- Assumes nothing.
 use mathlib.Core.Path.{◌≡◌, refl, sym, ap, ◌∙◌}
 use mathlib.Core.Logic.{◌⊎◌, inl, inr, ⊎_elim}
@@ -6,27 +6,18 @@ use mathlib.Core.Bool.{true, false, cond}
 use mathlib.Core.List.{List, []}
 use Prim.Native.Nat.{ℕ, ◌+◌, ◌-◌, ◌≤◌}
 use native.Mathlib.Omega.{arith}
-use lib.ListN.{length, take, drop, length-drop, drop_of_length-le}
-use lib.Seq.{take_all, take-nil}
+use lib.ListN.{length, take, drop}
 use lib.Dec.{eqb}
 use borrow.Author.Tests.{leb-true, ne_eqb}
 use Rattle.chars.specs.Put.{put, part}
 use Rattle.chars.proofs.PutLaws.{drop-put_in, part-put, part-put-before, part-put-after, part-most}
 use Rattle.model.specs.Blocks.{known, ordinal_start, block_of, reaches, executes}
 use Rattle.layout.proofs.RegionLaws.{take-put_in}
+use Rattle.blocks.specs.Places.{place_of_block}
+use Rattle.blocks.specs.declared.Place.TheVariants.{Fixed, Parameters}
+use Rattle.std.specs.Prelude.{None, Some}
+use Rattle.std.proofs.lemmas.Grind.{common_steps}
 use Rattle.model.proofs.Conditions.{by_eqb, and_left, and_right, false-true}
-
--- ---- a part that its area cuts short
-
-pub part-past : (xs : List ℕ) (base size : ℕ) → length xs ≤ base → part xs base size ≡ []
-unfolding part
-part-past xs base size h = ap (take size) (drop_of_length-le xs h) ∙ take-nil size
-
-pub part-rest : (xs : List ℕ) (base size : ℕ) → length xs - base ≤ size → part xs base (length xs - base) ≡ part xs base size
-unfolding part
-part-rest xs base size h =
-    let l : length (drop base xs) ≡ length xs - base = length-drop base xs in
-    take_all (length xs - base) (drop base xs) (omega arith) ∙ sym (take_all size (drop base xs) (omega arith))
 
 -- ---- a run in an area is a run in the part that holds it
 
@@ -164,6 +155,20 @@ module _ (fixed block : List ℕ) where
   unfolding Ends
   reached_fixed o bias n h e =
       omega (arith, reached_inside fixed block o bias n h, ends o (reached_known fixed block o bias n h) e)
+
+-- ---- where they lie
+
+module _ (o : ℕ) where
+  pub lies_fixed : (start size : ℕ) → place_of_block o ≡ Some (Fixed start size) → (o ≡ 0x06 → ⊥) × (start ≡ ordinal_start o)
+  unfolding ordinal_start
+  lies_fixed start size e = grind (arith, common_steps)
+
+  pub lies_apart : place_of_block o ≡ Some Parameters → o ≡ 0x06
+  lies_apart e = grind (arith, common_steps)
+
+  pub lies_nowhere : (fixed block : List ℕ) (bias n : ℕ) → place_of_block o ≡ None → reaches fixed block o bias n ≡ false
+  unfolding known reaches
+  lies_nowhere fixed block bias n e = grind (arith, common_steps)
 
 module _ (fixed block : List ℕ) (o bias : ℕ) (ys : List ℕ) (h : reaches fixed block o bias (length ys) ≡ true) where
   fixed_is : (executes fixed block o bias ys).fixed ≡ fixed_after fixed block o bias ys

@@ -17,8 +17,8 @@ use Rattle.model.specs.Control.{is_of}
 use Rattle.model.specs.Blocks.{Executed, ordinal_start, reaches, not_executed, executes, execute_when, execute_of}
 use Rattle.model.specs.declared.Outcome.{Outcome}
 use Rattle.model.specs.declared.Outcome.TheVariants.{WrongCount, NotValid, NothingWaits, WriteHeld}
-use Rattle.model.specs.declared.Pending.{Pending}
-use Rattle.model.specs.declared.Pending.TheVariants.{NoWrite, Waits}
+use Rattle.std.specs.Prelude.{None, Option, Some}
+use Rattle.model.specs.declared.Write.{Write}
 use Rattle.model.proofs.Conditions.{by_cond}
 use Rattle.layout.specs.Unit.{unit_sizes, region_start, fixed_region, unit_in, set_fixed, put_fixed}
 use Rattle.layout.proofs.UnitLaws.{put_in_lem, length-put_in, fixed_is, fixed-written}
@@ -90,18 +90,18 @@ module _ (fixed block : List ℕ) where
   executes-kept o bias ys =
       by_cond Kept (reaches fixed block o bias (length ys)) (λ e. kept _ (or_put (eqb o 0x06) (ordinal_start o + bias) ys)) (λ e. not-executed NotValid)
 
-  when_kept : (p : Pending) (q : Request) → Kept (execute_when p fixed block q)
+  when_kept : (p : Option Write) (q : Request) → Kept (execute_when p fixed block q)
   unfolding execute_when
-  when_kept NoWrite q = not-executed NothingWaits
-  when_kept (Waits w) q =
+  when_kept None q = not-executed NothingWaits
+  when_kept (Some w) q =
       by_cond Kept (is_of w.master (master_of q.address)) (λ e. executes-kept w.ordinal.0 w.bias q.body) (λ e. not-executed WriteHeld)
 
-  execute-kept : (p : Pending) (q : Request) → Kept (execute_of p fixed block q)
+  execute-kept : (p : Option Write) (q : Request) → Kept (execute_of p fixed block q)
   unfolding execute_of
   execute-kept p q = by_cond Kept (within 1 most_asked (length q.body)) (λ e. when_kept p q) (λ e. not-executed WrongCount)
 
 -- what the memory means after it, and how long it is
-pub executed-means : (u v block block' : List ℕ) (p : Pending) (q : Request) (r : answer.Executed)
+pub executed-means : (u v block block' : List ℕ) (p : Option Write) (q : Request) (r : answer.Executed)
     → ExecutesAs u (execute_of p (unit_in u).fixed block q) v block' r
     → (unit_in v ≡ set_fixed (unit_in u) (execute_of p (unit_in u).fixed block q).fixed) × (length v ≡ length u)
 unfolding Kept

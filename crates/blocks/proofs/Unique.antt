@@ -6,7 +6,8 @@ use mathlib.Core.Bool.{Bool}
 use mathlib.Core.List.{List}
 use Rattle.model.specs.Blocks as definition
 use Rattle.model.specs.declared.Outcome.{Outcome}
-use Rattle.model.specs.declared.Pending.{Pending}
+use Rattle.std.specs.Prelude.{Option}
+use Rattle.model.specs.declared.Write.{Write}
 use Rattle.blocks.specs.Answers.{WritesAs, ExecutesAs}
 use Rattle.blocks.specs.declared.Written.{Written}
 use Rattle.blocks.specs.declared.Executed.{Executed}
@@ -22,7 +23,7 @@ use Rattle.blocks.proofs.read.Reads as read
 one_written : (m : definition.WriteResult) (r s : Written) → WritesAs m r → WritesAs m s → r ≡ s
 one_written m r s a b = ap (λ (o : Outcome). made o r.write) (a.ended ∙ sym b.ended) ∙ ap (made s.outcome) (a.waiting ∙ sym b.waiting)
   where
-    made : Outcome → Pending → Written
+    made : Outcome → Option Write → Written
     made o w = record { outcome = o; write = w }
 
 -- execute

@@ -1,9 +1,8 @@
 // WRITE, EXECUTE and READ over the blocks, which lie in the fixed area of a unit's memory and in the parameter block; the caller lends both.
 #![tactic(auto)]
 
-ghost use Rattle.std.specs.Prelude.{◌≡◌, false, ◌≤◌, length, get_or, eqb};
+ghost use Rattle.std.specs.Prelude.{◌≡◌, false, is_some, MatchOption, [], ◌≤◌, length, eqb};
 ghost use Rattle.chars.specs.Put.{part};
-ghost use Rattle.chars.specs.Word.{word_at};
 ghost use Rattle.model.specs.declared.Outcome.TheVariants.{Done};
 ghost use Rattle.model.specs.Limits.{most_asked};
 ghost use Rattle.model.specs.Frame.{asked};
@@ -11,63 +10,64 @@ ghost use Rattle.model.specs.Scan.{Fills};
 ghost use Rattle.model.specs.Blocks as definition;
 ghost use Rattle.layout.specs.Unit.{unit_in};
 ghost use Rattle.blocks.specs.Answers.{WritesAs, ExecutesAs};
+ghost use Rattle.blocks.specs.Places.{place_of_block};
 
 use frames::master_of;
 use layout::UNIT;
-use model::{Age, Filled, Frame, Master, Ordinal, Outcome, Pending, Reply, Write, aged};
+use model::{Filled, Frame, Ordinal, Outcome, Reply, Write, aged};
 
 // How many characters of data a frame has at most.
 const MOST: usize = Frame::LONGEST - Frame::SHORTEST;
 
 // ---- finding a block
 
-// The size characters of area from base on, or those of them that are there.
-fn piece<'a>(area: &'a [u8], base: usize, size: usize) -> &'a [u8]
-    ensures { result.now ≡ part area.now base size }
-{
-    let len = area.len();
-    if len <= base {
-        return &area[0..0];
-    }
-    if len - base <= size {
-        return &area[base..];
-    }
-    let end = base + size;
-    &area[base..end]
+// Where the block of an ordinal lies: so many characters of the fixed area from a place on, or all of the parameter block.
+#[derive(Clone, Copy)]
+enum Place {
+    Fixed { start: usize, size: usize },
+    Parameters,
 }
 
-// Where an ordinal of the fixed area starts.
-fn ordinal_start(ordinal: u8) -> usize
-    ensures { (result ≡ definition.ordinal_start ordinal) × (result ≤ 272) }
+// None where there is no such ordinal.
+fn place_of_block(ordinal: u8) -> Option<Place>
+    ensures { result ≡ place_of_block ordinal }
 {
     match ordinal {
-        0x00 => 0,
-        0x03 => 16,
-        _ => 272,
+        0x00 => Some(Place::Fixed { start: 0, size: 16 }),
+        0x03 => Some(Place::Fixed {
+            start: 16,
+            size: 256,
+        }),
+        0x06 => Some(Place::Parameters),
+        0x0b => Some(Place::Fixed {
+            start: 272,
+            size: 256,
+        }),
+        _ => None,
     }
 }
 
-// The block of an ordinal; none where there is no such ordinal.
-fn block_of<'a>(fixed: &'a [u8], block: &'a [u8], ordinal: u8) -> &'a [u8]
-    ensures { result.now ≡ definition.block_of fixed.now block.now ordinal }
+// The size characters of area from base on, or those of them that are there.
+fn piece(area: &[u8], base: usize, size: usize) -> &[u8]
+    ensures { result.now ≡ part area.now base size }
 {
-    if ordinal == 0x06 {
-        return block;
-    }
-    let base = ordinal_start(ordinal);
-    if ordinal == 0x00 {
-        return piece(fixed, base, 16);
-    }
-    if ordinal == 0x03 {
-        return piece(fixed, base, 256);
-    }
-    if ordinal == 0x0b {
-        return piece(fixed, base, 256);
-    }
-    &block[0..0]
+    let rest = area.get(base..).unwrap_or(&[]);
+    rest.get(..size).unwrap_or(rest)
 }
 
-// The count characters of an ordinal's block from the bias on, in whichever of the two areas holds it.
+// The block of an ordinal, from whichever of the two areas holds it.
+fn block_of<'a>(fixed: &'a [u8], block: &'a [u8], ordinal: u8) -> Option<&'a [u8]>
+    ensures known { is_some result ≡ definition.known ordinal }
+    ensures lies { MatchOption result (definition.block_of fixed.now block.now ordinal ≡ [])
+        (λ area. area.now ≡ definition.block_of fixed.now block.now ordinal) }
+{
+    match place_of_block(ordinal)? {
+        Place::Fixed { start, size } => Some(piece(fixed, start, size)),
+        Place::Parameters => Some(block),
+    }
+}
+
+// The count characters of an ordinal's block from the bias on; none where there is no such ordinal.
 pub fn find<'a>(
     fixed: &'a [u8],
     block: &'a [u8],
@@ -77,29 +77,16 @@ pub fn find<'a>(
 ) -> &'a [u8]
     ensures { result.now ≡ part (definition.block_of fixed.now block.now ordinal.0) bias count }
 {
-    let area = block_of(fixed, block, ordinal.0);
-    piece(area, bias as usize, chars::wide(count))
-}
-
-// There is such an ordinal.
-fn known(ordinal: u8) -> bool
-    ensures { result ≡ definition.known ordinal }
-{
-    match ordinal {
-        0x00 | 0x03 | 0x06 | 0x0b => true,
-        _ => false,
-    }
+    let area = block_of(fixed, block, ordinal.0).unwrap_or(&[]);
+    piece(area, usize::from(bias), usize::from(count))
 }
 
 // The ordinal's block has count characters from the bias on.
-pub fn reaches<'a>(fixed: &'a [u8], block: &'a [u8], ordinal: Ordinal, bias: u16, count: u8) -> bool
+pub fn reaches(fixed: &[u8], block: &[u8], ordinal: Ordinal, bias: u16, count: u8) -> bool
     ensures { result ≡ definition.reaches fixed.now block.now ordinal.0 bias count }
 {
-    if known(ordinal.0) {
-        let area = block_of(fixed, block, ordinal.0);
-        return bias as usize + chars::wide(count) <= area.len();
-    }
-    false
+    let end = usize::from(bias) + usize::from(count);
+    block_of(fixed, block, ordinal.0).is_some_and(|area| end <= area.len())
 }
 
 // ---- WRITE
@@ -108,73 +95,45 @@ pub fn reaches<'a>(fixed: &'a [u8], block: &'a [u8], ordinal: Ordinal, bias: u16
 #[derive(Clone, Copy)]
 pub struct Written {
     pub outcome: Outcome,
-    pub write: Pending,
-}
-
-// The caller has counted the characters.
-fn taken(master: Master, body: &[u8]) -> Written
-    requires { length body.now ≡ 3 }
-    ensures { WritesAs (definition.waits_for master (word_at body.now 0) (get_or body.now 2 0)) result }
-{
-    let waits = Write {
-        master: master,
-        bias: chars::word_at(body, 0),
-        ordinal: Ordinal(body[2]),
-        age: 0,
-    };
-    Written {
-        outcome: Outcome::WriteTaken,
-        write: Pending::Waits(waits),
-    }
+    pub write: Option<Write>,
 }
 
 // The high five bits of the address word name the master.
 // 20h/30h: the write waits for its EXECUTE, unless another master's does.
-pub fn write(pending: Pending, frame: Frame, body: &[u8]) -> Written
+pub fn write(pending: Option<Write>, frame: Frame, body: &[u8]) -> Written
     ensures { WritesAs (definition.write_of pending (asked frame body.now)) result }
 {
-    if body.len() != 3 {
+    let &[low, high, ordinal] = body else {
         return Written {
             outcome: Outcome::WrongCount,
             write: pending,
         };
-    }
+    };
     let master = master_of(frame.address);
     match pending {
-        Pending::NoWrite => taken(master, body),
-        Pending::Waits(w) => {
-            let holder = w.master;
-            if holder.is(master) {
-                return taken(master, body);
-            }
-            Written {
-                outcome: Outcome::WriteHeld,
-                write: pending,
-            }
-        }
+        Some(w) if w.master != master => Written {
+            outcome: Outcome::WriteHeld,
+            write: pending,
+        },
+        _ => Written {
+            outcome: Outcome::WriteTaken,
+            write: Some(Write {
+                master,
+                bias: u16::from_le_bytes([low, high]),
+                ordinal: Ordinal(ordinal),
+                age: 0,
+            }),
+        },
     }
 }
 
 // Time ages a write, and in the end drops it.
-pub fn waits_after(pending: Pending, ms: u32) -> Pending
+pub fn waits_after(pending: Option<Write>, ms: u32) -> Option<Write>
     ensures { result ≡ definition.waits_after pending ms }
 {
-    match pending {
-        Pending::NoWrite => pending,
-        Pending::Waits(w) => {
-            let master = w.master;
-            let ordinal = w.ordinal;
-            match aged(w.age, ms) {
-                Age::Lives(age) => Pending::Waits(Write {
-                    master: master,
-                    bias: w.bias,
-                    ordinal: ordinal,
-                    age: age,
-                }),
-                Age::Over => Pending::NoWrite,
-            }
-        }
-    }
+    let w = pending?;
+    let age = aged(w.age, ms)?;
+    Some(Write { age, ..w })
 }
 
 // ---- EXECUTE
@@ -192,7 +151,7 @@ fn not_executed(outcome: Outcome) -> Executed
     ensures { result ≡ record { outcome = outcome; configures = false; clears = false } }
 {
     Executed {
-        outcome: outcome,
+        outcome,
         configures: false,
         clears: false,
     }
@@ -223,21 +182,23 @@ fn store(
         unit.new block.new result }
 {
     let n = body.len();
-    let o = ordinal.0;
-    if reaches(layout::fixed_of(unit), block, ordinal, bias, n as u8) {
-        if o == 0x06 {
-            chars::copy(body, 0, n, block, bias as usize);
-            return accepted(o);
-        }
-        layout::put_fixed(unit, ordinal_start(o) + bias as usize, body);
-        return accepted(o);
+    let Some(place) = place_of_block(ordinal.0) else {
+        return not_executed(Outcome::NotValid);
+    };
+    if !reaches(layout::fixed_of(unit), block, ordinal, bias, n as u8) {
+        return not_executed(Outcome::NotValid);
     }
-    not_executed(Outcome::NotValid)
+    let bias = usize::from(bias);
+    match place {
+        Place::Fixed { start, .. } => layout::put_fixed(unit, start + bias, body),
+        Place::Parameters => chars::copy(body, 0, n, block, bias),
+    }
+    accepted(ordinal.0)
 }
 
 // 20h/31h: the write that waits takes its characters.
 pub fn execute(
-    pending: Pending,
+    pending: Option<Write>,
     frame: Frame,
     body: &[u8],
     unit: &mut [u8; UNIT],
@@ -247,24 +208,15 @@ pub fn execute(
         (definition.execute_of pending (unit_in unit.old).fixed block.old (asked frame body.now))
         unit.new block.new result }
 {
-    let n = body.len();
-    if n < 1 {
-        return not_executed(Outcome::WrongCount);
-    }
-    if MOST < n {
+    if !(1..=MOST).contains(&body.len()) {
         return not_executed(Outcome::WrongCount);
     }
     match pending {
-        Pending::NoWrite => not_executed(Outcome::NothingWaits),
-        Pending::Waits(w) => {
-            let holder = w.master;
-            let master = master_of(frame.address);
-            if holder.is(master) {
-                let ordinal = w.ordinal;
-                return store(ordinal, w.bias, body, unit, block);
-            }
-            not_executed(Outcome::WriteHeld)
+        None => not_executed(Outcome::NothingWaits),
+        Some(w) if w.master == master_of(frame.address) => {
+            store(w.ordinal, w.bias, body, unit, block)
         }
+        Some(_) => not_executed(Outcome::WriteHeld),
     }
 }
 
@@ -278,7 +230,7 @@ fn returned(outcome: Outcome, frame: Frame, body: &[u8], reply: &mut [u8]) -> Fi
     let n = back.len();
     chars::copy(back, 0, n, reply, Reply::HEAD);
     Filled {
-        outcome: outcome,
+        outcome,
         count: n as u16,
     }
 }
@@ -294,21 +246,19 @@ pub fn read<'a>(
     ensures { Fills reply.old reply.new
         (definition.read_of (unit_in unit.now).fixed block.now (asked frame body.now)) result }
 {
-    if body.len() != 4 {
+    let &[low, high, ordinal, count] = body else {
         return returned(Outcome::WrongCount, frame, body, reply);
-    }
-    let bias = chars::word_at(body, 0);
-    let ordinal = Ordinal(body[2]);
-    let count = body[3];
-    let n = chars::wide(count);
+    };
+    let bias = u16::from_le_bytes([low, high]);
+    let ordinal = Ordinal(ordinal);
     let fixed = layout::fixed_of(unit);
-    if reaches(fixed, block, ordinal, bias, count) {
-        let found = find(fixed, block, ordinal, bias, count);
-        chars::copy(found, 0, n, reply, Reply::HEAD);
-        return Filled {
-            outcome: Outcome::Done,
-            count: n as u16,
-        };
+    if !reaches(fixed, block, ordinal, bias, count) {
+        return returned(Outcome::NotValid, frame, body, reply);
     }
-    returned(Outcome::NotValid, frame, body, reply)
+    let found = find(fixed, block, ordinal, bias, count);
+    chars::copy(found, 0, usize::from(count), reply, Reply::HEAD);
+    Filled {
+        outcome: Outcome::Done,
+        count: u16::from(count),
+    }
 }

@@ -1,41 +1,17 @@
 -- A turn in numbers. Assumes nothing.
-use mathlib.Core.Path.{◌≡◌, refl, ◌∙◌}
-use Prim.Native.Nat.{ℕ, ◌/◌, ◌%◌, ◌≤◌}
+use mathlib.Core.Path.{◌≡◌, ◌∙◌}
+use Prim.Native.Nat.{ℕ, ◌/◌, ◌%◌, ◌≤◌, ◌<◌}
 use mathlib.Core.List.{List, [], ◌∷◌}
-use mathlib.Core.Bool.{Bool, cond}
 use lib.ListN.{take}
 use native.Mathlib.Omega.{arith}
 use Rattle.chars.specs.Word.{word, value, word_at}
 use Rattle.model.specs.Limits.{longest_reply}
 use Rattle.model.specs.Outcome.{number_of}
-use Rattle.model.specs.declared.ControlOutput.{ControlOutput}
-use Rattle.model.specs.declared.Action.{Action}
-use Rattle.model.specs.declared.Action.TheVariants.{Rest, Operate}
 use Rattle.serve.specs.declared.Made.{Made}
 use Rattle.unit.specs.Calls.{made_shown}
 use Rattle.model.specs.declared.Answer.{Answer}
 use Rattle.board.specs.Told.{turned_by, action_number, output_number, missing_number, bits_number, sampled_by}
 use Rattle.board.specs.Runs.{numbered, unsampled, numbers_shown}
-
--- ---- the output action
-
-module _ {a : Action} where
-  pub action-rest : a ≡ Rest → 0 ≡ action_number a
-  unfolding action_number
-  action-rest e = rw e refl
-
-  pub output-rest : a ≡ Rest → 0 ≡ output_number a
-  unfolding output_number
-  output-rest e = rw e refl
-
-  module _ {output : ControlOutput} {close : Bool} (e : a ≡ Operate output close) where
-    pub action_operate : {m : ℕ} → m ≡ cond close 2 1 → m ≡ action_number a
-    unfolding action_number
-    action_operate h = rw e h
-
-    pub output_operate : output.0 ≡ output_number a
-    unfolding output_number
-    output_operate = rw e refl
 
 -- ---- a stretch
 
@@ -58,7 +34,11 @@ shown-told m {n} {ts} exit h e t =
 
 -- ---- a sample
 
-pub sampled-told : (a : Answer) {m b : ℕ} → m ≡ missing_number a → b ≡ bits_number a
-    → (m % 256 ∷ m / 256 ∷ b % 256 ∷ b / 256 % 256 ∷ b / 65536 % 256 ∷ b / 16777216 ∷ []) ≡ sampled_by a
+pub sampled-told : (a : Answer) {m b : ℕ} → m ≡ missing_number a → b ≡ bits_number a → m < 65536 → b < 4294967296
+    → (m % 256 ∷ m / 256 % 256 ∷ b % 256 ∷ b / 256 % 256 ∷ b / 65536 % 256 ∷ b / 16777216 % 256 ∷ []) ≡ sampled_by a
 unfolding sampled_by word value
-sampled-told a p q = λ i. p i % 256 ∷ p i / 256 ∷ q i % 256 ∷ q i / 256 % 256 ∷ q i / 65536 % 256 ∷ q i / 16777216 ∷ []
+sampled-told a {m} {b} p q short small =
+    let high : m / 256 % 256 ≡ m / 256 = omega arith in
+    let fourth : b / 16777216 % 256 ≡ b / 16777216 = omega arith in
+    (λ i. m % 256 ∷ high i ∷ b % 256 ∷ b / 256 % 256 ∷ b / 65536 % 256 ∷ fourth i ∷ [])
+    ∙ (λ i. p i % 256 ∷ p i / 256 ∷ q i % 256 ∷ q i / 256 % 256 ∷ q i / 65536 % 256 ∷ q i / 16777216 ∷ [])

@@ -3,7 +3,7 @@ use mathlib.Core.Path.{◌≡◌, refl, sym, ap, ◌∙◌}
 use Prim.Native.Nat.{ℕ, zero, suc}
 use native.Mathlib.Omega.{arith}
 use mathlib.Core.List.{List, []}
-use mathlib.Core.Bool.{true, false, cond}
+use mathlib.Core.Bool.{true, false}
 use lib.ListN.{length, get_or, replicate, length-replicate}
 use borrow.Author.Tests.{le-leb, eq-eqb}
 use Rattle.model.specs.Config.{Config, valid_of}
@@ -11,7 +11,7 @@ use Rattle.model.specs.State.{held_in, fresh_core, fresh_areas, fresh_history, f
 use Rattle.model.specs.Means.{samples_at}
 use Rattle.model.specs.Plans.{empty_plans}
 use Rattle.model.specs.Fits.{fits}
-use Rattle.model.specs.declared.Memory.TheVariants.{Nothing}
+use Rattle.std.specs.Prelude.{None}
 use Rattle.model.proofs.Conditions.{by_bool}
 use Rattle.model.proofs.Valid.{fresh-fits}
 use Rattle.layout.specs.Numbers.{core_in, memory_in, port_in, readable}
@@ -39,7 +39,7 @@ fresh-valid : (c : Config) → fits c (fresh_of c) ≡ valid_of c
 fresh-valid c = by_bool (valid_of c) (λ e. fresh-fits c e ∙ sym e) (λ e. let z : fits c (fresh_of c) ≡ false = unfold fits in rw e refl in z ∙ sym e)
 
 -- judged with a block as long as its configuration says and the room that it asks for
-fresh-taken : (cs : List ℕ) {n lent room : ℕ} {u bl : List ℕ} → FreshPromise cs n u bl → lent ≡ (config_in u).block → room ≡ room_of (config_in u)
+pub fresh-taken : (cs : List ℕ) {n lent room : ℕ} {u bl : List ℕ} → FreshPromise cs n u bl → lent ≡ (config_in u).block → room ≡ room_of (config_in u)
     → fits_in u lent room ≡ valid_of (config_given cs)
 unfolding fits_in fresh_of fresh_areas fresh_history
 fresh-taken cs {n} {lent} {room} {u} f l r =
@@ -51,12 +51,5 @@ fresh-taken cs {n} {lent} {room} {u} f l r =
     rw (eq-eqb _ _ (ap (λ (y : Unit). y.layout) x), le-leb (room_of (config_in u)) room (omega arith), e)
     ((λ i. fits_by (x i).config (b i) (x i).plans (x i).counts (x i).taken (core_in (x i).numbers) (memory_in (x i).numbers) (port_in (x i).numbers))
     ∙ (λ i. fits_by c c.block empty_plans (replicate 32 0) (replicate 16 0) (w.core i) (w.memory i) (w.port i))
-    ∙ fits_by_lem c c.block (replicate 32 0) (replicate 16 0) fresh_core Nothing fresh_port (fresh_areas c) (replicate 32 []) (replicate 32 0) (length-replicate {A = ℕ} c.block 0) (λ p h. none-taken 16 p) (λ g h. none-held 32 g)
+    ∙ fits_by_lem c c.block (replicate 32 0) (replicate 16 0) fresh_core None fresh_port (fresh_areas c) (replicate 32 []) (replicate 32 0) (length-replicate {A = ℕ} c.block 0) (λ p h. none-taken 16 p) (λ g h. none-held 32 g)
     ∙ fresh-valid c)
-
-module _ (cs : List ℕ) {n lent room : ℕ} {u bl : List ℕ} (f : FreshPromise cs n u bl) (l : lent ≡ (config_in u).block) (r : room ≡ room_of (config_in u)) where
-  pub told-valid : {k : ℕ} → k ≡ 1 → fits_in u lent room ≡ true → k ≡ cond (valid_of (config_given cs)) 1 0
-  told-valid o e = rw (sym (fresh-taken cs f l r) ∙ e) o
-
-  pub told-invalid : {k : ℕ} → k ≡ 0 → fits_in u lent room ≡ false → k ≡ cond (valid_of (config_given cs)) 1 0
-  told-invalid o e = rw (sym (fresh-taken cs f l r) ∙ e) o

@@ -1,5 +1,5 @@
 -- What the calls from C promise: the entries' promises, with what is shown in numbers.
-use Rattle.std.specs.Prelude.{◌≡◌, ℕ, ◌/◌, ◌%◌, List, [], ◌∷◌, ◌++◌, cond}
+use Rattle.std.specs.Prelude.{None, Option, Some, ◌≡◌, ℕ, ◌/◌, ◌%◌, List, [], ◌∷◌, ◌++◌, cond}
 use Rattle.std.specs.Float.{binary32}
 use Rattle.std.specs.Float.Ieee.{to_bits}
 use Rattle.chars.specs.Word.{word, value}
@@ -10,8 +10,7 @@ use Rattle.model.specs.declared.Sampled.{Sampled}
 use Rattle.model.specs.declared.Sampled.TheVariants.{Ready, NotReady}
 use Rattle.model.specs.declared.Answer.{Answer}
 use Rattle.model.specs.declared.Answer.TheVariants.{Ended, Storing, Sampling}
-use Rattle.model.specs.declared.Action.{Action}
-use Rattle.model.specs.declared.Action.TheVariants.{Rest, Operate}
+use Rattle.model.specs.declared.Operation.{Operation}
 use Rattle.layout.specs.Kept.{Owned}
 use Rattle.unit.specs.Events.{EventPromise}
 use Rattle.serve.specs.Stretch.{StretchPromise}
@@ -19,13 +18,13 @@ use Rattle.serve.specs.declared.Made.{Made}
 
 -- ---- a stretch
 
-unfoldable pub action_number : Action → ℕ
-action_number Rest = 0
-action_number (Operate output close) = cond close 2 1
+unfoldable pub action_number : Option Operation → ℕ
+action_number None = 0
+action_number (Some operation) = cond operation.close 2 1
 
-unfoldable pub output_number : Action → ℕ
-output_number Rest = 0
-output_number (Operate output close) = output.0
+unfoldable pub output_number : Option Operation → ℕ
+output_number None = 0
+output_number (Some operation) = operation.output.0
 
 -- what is turned: how many characters of the buffer are to be sent, low character first, and what the control outputs do
 abbrev pub turned_by : Made → List ℕ

@@ -16,9 +16,8 @@ ghost use Rattle.layout.specs.Kept.{owned_of};
 ghost use Rattle.unit.specs.Fresh.{FreshPromise};
 ghost use Rattle.board.specs.Told.{TurnPromise, AnswerPromise, SamplePromise};
 
-use answers::{action_number, answer_number, bits_number, missing_number, output_number};
+use answers::{action_numbers, answer_number, bits_number, missing_number};
 use checkword::check_word;
-use frames::outcomes::number;
 use layout::{CONFIG, CURRENT, UNIT};
 use model::{Contact, File, Input, SpecialCalculation};
 
@@ -43,15 +42,11 @@ pub extern "C" fn osturdam_check(start: u16, s: &[u8]) -> u16
 pub extern "C" fn osturdam_valid(config: &[u8; CONFIG]) -> u8
     ensures { result ≡ cond (valid_of (config_given config.now)) 1 0 }
 {
-    let mut unit = [0u8; UNIT];
-    let mut block = [0u8; 0];
-    unit::fresh(&mut unit, &mut block, config);
-    let long = layout::length_of(&unit) as usize;
+    let mut unit = [0; UNIT];
+    unit::fresh(&mut unit, &mut [], config);
+    let long = usize::from(layout::length_of(&unit));
     let room = layout::room_of(&unit);
-    if layout::fits(&unit, long, room) {
-        return 1;
-    }
-    0
+    u8::from(layout::fits(&unit, long, room))
 }
 
 // How many characters of records the owner of a unit of a configuration is to lend.
@@ -105,15 +100,13 @@ pub extern "C" fn osturdam_stretch<'a>(
         buffer.old buffer.new result turned.new }
 {
     let turn = unit::stretch(unit, block, records, buffer, s, lag);
-    let outcome = turn.outcome;
-    let action = turn.action;
-    let sent = turn.sent;
-    let low = (sent % 256) as u8;
-    let high = (sent / 256 % 256) as u8;
-    *turned = [low, high, action_number(action), output_number(action)];
-    number(outcome)
+    let [low, high, ..] = turn.sent.to_le_bytes();
+    let (action, output) = action_numbers(turn.action);
+    *turned = [low, high, action, output];
+    u8::from(turn.outcome)
 }
 
+// Time and the local events. What C calls has a name and numbers of fixed width of its own, so each event is a call by itself.
 #[unsafe(no_mangle)]
 pub extern "C" fn osturdam_elapsed<'a>(
     unit: &mut [u8; UNIT],
@@ -125,8 +118,7 @@ pub extern "C" fn osturdam_elapsed<'a>(
         (owned_of unit.old block.now records.now)
         (owned_of unit.new block.now records.now) result }
 {
-    let outcome = unit::elapsed(unit, block, records, ms);
-    number(outcome)
+    u8::from(unit::elapsed(unit, block, records, ms))
 }
 
 #[unsafe(no_mangle)]
@@ -141,8 +133,7 @@ pub extern "C" fn osturdam_set_word<'a>(
         (owned_of unit.old block.now records.now)
         (owned_of unit.new block.now records.now) result }
 {
-    let outcome = unit::set_word(unit, block, records, Input(input), word);
-    number(outcome)
+    u8::from(unit::set_word(unit, block, records, Input(input), word))
 }
 
 // The state of one contact, 0 or 1; 8 for any other state, and for a contact whose group is not equipped.
@@ -158,8 +149,7 @@ pub extern "C" fn osturdam_contact<'a>(
         (owned_of unit.old block.now records.now)
         (owned_of unit.new block.now records.now) result }
 {
-    let outcome = unit::contact(unit, block, records, Contact(which), state);
-    number(outcome)
+    u8::from(unit::contact(unit, block, records, Contact(which), state))
 }
 
 #[unsafe(no_mangle)]
@@ -174,8 +164,7 @@ pub extern "C" fn osturdam_pulses<'a>(
         (owned_of unit.old block.now records.now)
         (owned_of unit.new block.now records.now) result }
 {
-    let outcome = unit::pulses(unit, block, records, Input(accumulator), count);
-    number(outcome)
+    u8::from(unit::pulses(unit, block, records, Input(accumulator), count))
 }
 
 #[unsafe(no_mangle)]
@@ -190,8 +179,7 @@ pub extern "C" fn osturdam_set_value<'a>(
         (owned_of unit.old block.now records.now)
         (owned_of unit.new block.now records.now) result }
 {
-    let outcome = unit::set_value(unit, block, records, SpecialCalculation(calculation), value);
-    number(outcome)
+    u8::from(unit::set_value(unit, block, records, SpecialCalculation(calculation), value))
 }
 
 #[unsafe(no_mangle)]
@@ -207,8 +195,7 @@ pub extern "C" fn osturdam_store_record<'a>(
         (owned_of unit.old block.now records.old)
         (owned_of unit.new block.now records.new) result }
 {
-    let answer = unit::store_record(unit, block, records, File(file), event, given);
-    answer_number(answer)
+    answer_number(unit::store_record(unit, block, records, File(file), event, given))
 }
 
 // A sample for a mean: 0 where it is taken, 8 for a number that is no mean. What is sampled: how many samples are still missing and the bits
@@ -226,15 +213,8 @@ pub extern "C" fn osturdam_sample<'a>(
         (owned_of unit.new block.now records.new) result sampled.new }
 {
     let answer = unit::sample(unit, block, records, SpecialCalculation(calculation));
-    let missing = missing_number(answer);
-    let bits = bits_number(answer);
-    *sampled = [
-        (missing % 256) as u8,
-        (missing / 256) as u8,
-        (bits % 256) as u8,
-        (bits / 256 % 256) as u8,
-        (bits / 65536 % 256) as u8,
-        (bits / 16777216) as u8,
-    ];
+    let [low, high] = missing_number(answer).to_le_bytes();
+    let [first, second, third, fourth] = bits_number(answer).to_le_bytes();
+    *sampled = [low, high, first, second, third, fourth];
     answer_number(answer)
 }

@@ -4,7 +4,8 @@ use mathlib.Core.Path.{◌≡◌, refl, sym}
 use Prim.Native.Nat.{ℕ, ◌+◌, ◌*◌, ◌≤◌, ◌<◌}
 use native.Mathlib.Omega.{arith}
 use mathlib.Core.List.{List, [], ◌∷◌, append-nil}
-use mathlib.Core.Bool.{true, false}
+use mathlib.Core.Bool.{Bool, true, false}
+use mir.Val.{bool_byte}
 use borrow.Author.Tests.{le-leb, lt-leb, eq-eqb, ne_eqb}
 use lib.ListN.{length, get_or, set, length-append}
 use Rattle.chars.specs.Put.{put}
@@ -13,13 +14,11 @@ use Rattle.chars.specs.Gather.{gather, up_from}
 use Rattle.chars.proofs.PutLaws.{put_one, put_then}
 use Rattle.chars.proofs.WordLaws.{length-value}
 use Rattle.chars.proofs.GatherLaws.{gather-more, gather-each, up_next}
-use Rattle.model.specs.Limits.{most_data, most_asked}
-use Rattle.model.specs.Frame.{Request}
+use Rattle.model.specs.Limits.{most_data}
 use Rattle.model.specs.Config.{has_calculation}
-use Rattle.model.specs.Scan.{tells, refuses, with_no_data}
-use Rattle.model.specs.Calculations.{fitting, value_of, all_of, pair_of, missing_of, asked_of, calculations_of}
-use Rattle.model.specs.declared.Outcome.TheVariants.{Unknown, WrongCount, NotValid, TooLong}
-use Rattle.points.proofs.NumberLaws.{within_low, within-high, within_both}
+use Rattle.model.specs.Scan.{tells, refuses}
+use Rattle.model.specs.Calculations.{fitting, value_of, all_of, pair_of, missing_of, asked_of}
+use Rattle.model.specs.declared.Outcome.TheVariants.{NotValid, TooLong}
 
 -- ---- one number
 
@@ -55,12 +54,14 @@ pub count_none : (table values : List ℕ) → 4 * 0 ≡ length (gather (value_o
 unfolding gather up_from
 count_none table values = refl
 
-module _ (table values : List ℕ) (k n : ℕ) (c : 4 * n ≡ length (gather (value_of table values) (up_from 0 k))) where
-  pub count-taken : has_calculation table k ≡ true → 4 * (n + 1) ≡ length (gather (value_of table values) (up_from 0 (k + 1)))
-  count-taken e = rw (up_next, gather-more, value_taken table values k e refl, length-append, length-value) (omega arith)
-
-  pub count_left : has_calculation table k ≡ false → 4 * n ≡ length (gather (value_of table values) (up_from 0 (k + 1)))
-  count_left e = rw (up_next, gather-more, value-left table values k e, append-nil) c
+-- one number more, and one more of those that are equipped where it is
+pub count_more : (table : List ℕ) (k n : ℕ) (b : Bool) {r : ℕ} → r ≡ bool_byte b → b ≡ has_calculation table k
+    → ((values : List ℕ) → 4 * n ≡ length (gather (value_of table values) (up_from 0 k)))
+    → (r ≤ 1) × ((values : List ℕ) → 4 * (n + r) ≡ length (gather (value_of table values) (up_from 0 (k + 1))))
+count_more table k n true e f c =
+    (omega arith, λ vs. let g = c vs in rw (up_next, gather-more, value_taken table vs k (sym f) refl, length-append, length-value) (omega (arith, g)))
+count_more table k n false e f c =
+    (omega arith, λ vs. let g = c vs in rw (up_next, gather-more, value-left table vs k (sym f), append-nil) (omega (arith, g)))
 
 pub pairs-long : (values ns : List ℕ) → length (gather (pair_of values) ns) ≡ 5 * length ns
 unfolding pair_of value
@@ -98,28 +99,3 @@ module _ (table values ns : List ℕ) where
     pub asked-done : length ns ≤ 102 → asked_of table values ns ≡ tells (gather (pair_of values) ns)
     unfolding asked_of
     asked-done h = simp (eq-eqb _ _ z) (fitting-done (gather (pair_of values) ns) (omega (arith, pairs-long values ns)))
-
-module _ (table values : List ℕ) (q : Request) where
-  pub calculations-all : q.command ≡ 0x80 → calculations_of table values q ≡ with_no_data q (all_of table values)
-  unfolding calculations_of
-  calculations-all e = simp (eq-eqb _ _ e)
-
-  module _ (e : q.command ≡ 0x80 → ⊥) where
-    pub calculations_unknown : (q.command ≡ 0x00 → ⊥) → calculations_of table values q ≡ refuses Unknown
-    unfolding calculations_of
-    calculations_unknown f = simp (ne_eqb _ _ e, ne_eqb _ _ f)
-
-    module _ (f : q.command ≡ 0x00) where
-      pub calculations-none : length q.body ≡ 0 → calculations_of table values q ≡ refuses WrongCount
-      unfolding calculations_of
-      calculations-none h = simp (ne_eqb _ _ e, eq-eqb _ _ f, within_low 1 most_asked (length q.body) (omega arith))
-
-      pub calculations-many : most_asked < length q.body → calculations_of table values q ≡ refuses WrongCount
-      unfolding calculations_of
-      calculations-many h = simp (ne_eqb _ _ e, eq-eqb _ _ f, within-high 1 most_asked (length q.body) (omega arith) h)
-
-      pub calculations_those : (length q.body ≡ 0 → ⊥) → length q.body ≤ most_asked → calculations_of table values q ≡ asked_of table values q.body
-      unfolding calculations_of
-      calculations_those h k =
-          let one : 1 ≤ length q.body = omega arith in
-          simp (ne_eqb _ _ e, eq-eqb _ _ f, within_both 1 most_asked (length q.body) one k)

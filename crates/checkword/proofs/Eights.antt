@@ -108,6 +108,10 @@ read_head v s n x y h k is started = record { left = alike_is c; even = sym (par
     c : bit_steps 64 y ≡ check_from v (part s 0 n)
     c = let l : 0 + n ≤ length s = omega arith in in_high v (part s 0 n) n x y (sym (length_part s 0 n l)) h is started
 
+-- the same count of characters, told otherwise
+pub read_is : {v : ℕ} {s : List ℕ} {w a i j : ℕ} → i ≡ j → Read v s i w a → Read v s j w a
+read_is e r = rw e at r
+
 pub read_eight : (v : ℕ) (s : List ℕ) (i w a t y : ℕ) → i + 8 ≤ length s → Read v s i w a
     → Alike (bit_steps 64 t) (bit_steps 64 (bit_steps 64 w))
     → y ≡ line (part s i 8)

@@ -2,12 +2,14 @@
 -- Assumes nothing.
 use mathlib.Core.Path.{◌≡◌, refl, sym, ap, ap₂, ◌∙◌, subst}
 use mathlib.Core.List.{List, [], ◌∷◌, ◌++◌}
-use Prim.Native.Nat.{ℕ, suc, ◌+◌, ◌-◌, ◌*◌, ◌/◌, ◌%◌, ◌^◌, ◌≤◌, ◌<◌}
+use Prim.Native.Nat.{ℕ, zero, suc, ◌+◌, ◌-◌, ◌*◌, ◌/◌, ◌%◌, ◌^◌, ◌≤◌, ◌<◌}
 use native.Mathlib.Nat.{zero-add, zero-div, add_comm, mul_assoc, mod-eq_of_lt, add-mul-mod_self_right}
 use native.Mathlib.Decide.{dec_lt}
 use native.Mathlib.Omega.{arith}
 use lib.ListN.{length, take, drop, get_or}
 use lib.Seq.{drop-cons}
+use Rattle.std.proofs.Math.ListN.{drop_of_length-le}
+use Rattle.std.specs.Int.{from_le_bytes, w32, w64}
 use lib.Bits.{xor_comm, xor_zero_r, xor_shifted}
 use lib.Pow.{pow-add, shl-shr, shr-shr, high}
 use Rattle.chars.specs.Put.{part}
@@ -91,6 +93,43 @@ part_lt : (s : List ℕ) → Characters s → (i n : ℕ) → i + n ≤ length s
 unfolding part
 part_lt s hs i n h =
     subst (λ x. line (part s i n) < 2 ^ (8 * x)) (length_part s i n h) (line_lt (part s i n) (characters-take n (drop i s) (characters-drop i s hs)))
+
+-- by its characters, low first: that at k, and those behind it
+line-at : (s : List ℕ) → Characters s → (k : ℕ) → line (drop k s) ≡ get_or s k 0 + 256 * line (drop (suc k) s)
+unfolding line
+line-at [] h zero = refl
+line-at [] h (suc k) = refl
+line-at (c ∷ s) h zero = omega (arith, line_cons c s (h 0))
+line-at (c ∷ s) h (suc k) = line-at s (λ i. h (suc i)) k
+
+line-end : (s : List ℕ) (n : ℕ) → length s ≡ n → line (drop n s) ≡ 0
+unfolding line
+line-end s n e = ap line (drop_of_length-le s (omega arith))
+
+-- the n of them from i on, as std hands them over
+read_part : (s : List ℕ) (i n : ℕ) (read : List ℕ) → read ≡ take (i + n - i) (drop i s) → read ≡ part s i n
+unfolding part
+read_part s i n read e = e ∙ ap (λ k. take k (drop i s)) (omega arith)
+
+characters_part : (s : List ℕ) → Characters s → (i n : ℕ) → Characters (part s i n)
+unfolding part
+characters_part s h i n = characters-take n (drop i s) (characters-drop i s h)
+
+-- four and eight of them, as std puts them together
+of_four : (s : List ℕ) → Characters s → length s ≡ 4 → from_le_bytes w32 s ≡ line s
+of_four s h e = omega (arith, line-at s h 0, line-at s h 1, line-at s h 2, line-at s h 3, line-end s 4 e)
+
+of_eight : (s : List ℕ) → Characters s → length s ≡ 8 → from_le_bytes w64 s ≡ line s
+of_eight s h e =
+    omega (arith, line-at s h 0, line-at s h 1, line-at s h 2, line-at s h 3, line-at s h 4, line-at s h 5, line-at s h 6, line-at s h 7, line-end s 8 e)
+
+pub line_four : (s : List ℕ) → Characters s → (i : ℕ) (read : List ℕ) → i + 4 ≤ length s → read ≡ take (i + 4 - i) (drop i s)
+    → from_le_bytes w32 read ≡ line (part s i 4)
+line_four s hs i read h e = rw (read_part s i 4 read e) (of_four (part s i 4) (characters_part s hs i 4) (length_part s i 4 h))
+
+pub line_eight : (s : List ℕ) → Characters s → (i : ℕ) (read : List ℕ) → i + 8 ≤ length s → read ≡ take (i + 8 - i) (drop i s)
+    → from_le_bytes w64 read ≡ line (part s i 8)
+line_eight s hs i read h e = rw (read_part s i 8 read e) (of_eight (part s i 8) (characters_part s hs i 8) (length_part s i 8 h))
 
 -- of the first eight characters those from n on fall out of 64 places
 pub line-high : (s : List ℕ) → Characters s → (n : ℕ) → n ≤ 8 → 8 ≤ length s

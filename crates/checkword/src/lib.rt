@@ -65,31 +65,28 @@ fn started(start: u16, x: u64, n: usize) -> u64
     requires { (0 < n) × (n ≤ 8) }
     ensures { bit_steps 64 result ≡ bit_xor (bit_steps 64 x) (bit_steps (8 * n) start) }
 {
-    let v = x ^ ((start as u64) << (64 - 8 * n));
+    let v = x ^ (u64::from(start) << (64 - 8 * n));
     if start > 255 {
-        let c = past(start, n) as u64;
+        let c = u64::from(past(start, n));
         return v ^ ((c << 56) ^ (c << 4) ^ c);
     }
     v
 }
 
-// The list is folded to its last eight characters, one load a turn.
+// The list is folded to its last eight characters, one load a turn: a first one to eight, so that whole eights are left.
 fn folded(start: u16, s: &[u8]) -> u16
     requires { 8 < length s.now }
     ensures { result ≡ check_from start s.now }
 {
-    let last = s.len() - 8;
-    let mut i = (last - 1) % 8 + 1;
-    let mut v = started(start, head(s, i), i);
+    let n = (s.len() - 1) % 8 + 1;
+    let mut v = started(start, head(s, n), n);
     let mut a = v;
-    while i < last {
-        let w = eight(s, i);
+    for k in 0..(s.len() - 1) / 8 {
+        let w = eight(s, n + 8 * k);
         v = turn(v) ^ w;
-        a = a ^ w;
-        i += 8;
+        a ^= w;
     }
-    let w = eight(s, last);
-    worked(turn(v) ^ w, a ^ w)
+    worked(v, a)
 }
 
 // The check of up to eight characters that are one number, in its high places: for who has them at hand. Those that were written just before

@@ -3,7 +3,7 @@ ghost use Rattle.std.specs.Prelude.{◌≡◌};
 ghost use Rattle.checkword.specs.Check.{bit_steps};
 ghost use Rattle.checkword.specs.Table.{rule};
 
-const TABLE: [u16; 256] = [
+static TABLE: [u16; 256] = [
     0x0000, 0xc0c1, 0xc181, 0x0140, 0xc301, 0x03c0, 0x0280, 0xc241, 0xc601, 0x06c0, 0x0780, 0xc741,
     0x0500, 0xc5c1, 0xc481, 0x0440, 0xcc01, 0x0cc0, 0x0d80, 0xcd41, 0x0f00, 0xcfc1, 0xce81, 0x0e40,
     0x0a00, 0xcac1, 0xcb81, 0x0b40, 0xc901, 0x09c0, 0x0880, 0xc841, 0xd801, 0x18c0, 0x1980, 0xd941,
@@ -29,17 +29,17 @@ const TABLE: [u16; 256] = [
 ];
 
 // The contract is the rule of the whole table.
-fn words() -> [u16; 256]
-    ensures { result ≡ rule }
+fn words() -> &'static [u16; 256]
+    ensures { result.now ≡ rule }
 {
-    TABLE
+    &TABLE
 }
 
-// Two characters, low one first. The table is laid out before the look-ups, as it would be at each one of the constant.
+// Two characters, low one first.
 pub fn divided(v: u16) -> u16
     ensures { result ≡ bit_steps 16 v }
 {
     let table = words();
-    let u = (v >> 8) ^ table[(v % 256) as usize];
-    (u >> 8) ^ table[(u % 256) as usize]
+    let u = (v >> 8) ^ table[usize::from(v % 256)];
+    (u >> 8) ^ table[usize::from(u % 256)]
 }

@@ -1,4 +1,3 @@
 -- The laws that the proofs of this crate and of its users cite.
-pub mod CodeLaws
 pub mod TimeLaws
 pub mod Unique

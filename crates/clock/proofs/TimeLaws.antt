@@ -3,7 +3,7 @@ use mathlib.Core.Path.{◌≡◌, refl, sym}
 use Prim.Native.Nat.{ℕ, ◌+◌, ◌*◌, ◌/◌, ◌%◌, ◌<◌, ◌≤◌}
 use native.Mathlib.Omega.{arith}
 use mathlib.Core.List.{List, [], ◌∷◌}
-use mathlib.Core.Bool.{true, ◌&&◌}
+use mathlib.Core.Bool.{Bool, true, false, ◌&&◌, false≢true}
 use lib.ListN.{length, get_or}
 use lib.Dec.{leb}
 use borrow.Author.Tests.{leb-true, eq-eqb}
@@ -13,7 +13,10 @@ use Rattle.model.specs.Scan.{tells, counts, with_no_data}
 use Rattle.model.specs.Clock.{bcd, from_bcd, digits, clock_fits, time_in, digits_fit, time_fits, set_time_of, time_chars, read_time_of}
 use Rattle.model.specs.declared.Clock.{Clock}
 use Rattle.model.proofs.Times.{after_none}
-use Rattle.clock.proofs.CodeLaws.{both}
+
+both : (a b : Bool) → a && b ≡ true → (a ≡ true) × (b ≡ true)
+both true b e = (refl, e)
+both false b e = absurd (false≢true e)
 
 -- ---- two decimal digits
 

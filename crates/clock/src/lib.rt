@@ -1,12 +1,12 @@
 // The unit's clock: Set Time, Read Time, and time that passes.
 #![tactic(auto)]
 
-ghost use Rattle.std.specs.Prelude.{◌≡◌, true, ◌*◌, ◌-◌, ◌%◌, ◌<◌, length};
+ghost use Rattle.std.specs.Prelude.{◌≡◌, true, cond, Some, None, ◌*◌, ◌%◌, ◌<◌};
 ghost use Rattle.chars.specs.Put.{put};
 ghost use Rattle.model.specs.Limits.{reply_head};
 ghost use Rattle.model.specs.Frame.{asked};
 ghost use Rattle.model.specs.Scan.{Fills};
-ghost use Rattle.model.specs.Clock.{bcd, from_bcd, digits, clock_fits, time_in, digits_fit, time_of, clock_at, clock_after, set_time_of, time_chars};
+ghost use Rattle.model.specs.Clock.{bcd, from_bcd, digits, clock_fits, time_in, time_of, clock_at, clock_after, set_time_of, time_chars};
 ghost use Rattle.model.specs.Ask.{good_time};
 ghost use Rattle.clock.specs.Times.{set_of, time_read_of};
 
@@ -22,22 +22,12 @@ pub struct Set {
     pub clock: Clock,
 }
 
-// The last two digits; a clock in range has no more.
-fn last_two(n: u8) -> u8
-    ensures { result ≡ n % 100 }
-{
-    if n < 100 {
-        return n;
-    }
-    n % 100
-}
-
 // Of a number over 99 the last two digits: a character holds no more.
 pub fn to_bcd(n: u8) -> u8
     ensures { result ≡ bcd (n % 100) }
 {
-    let m = last_two(n);
-    m / 10 * 16 + m % 10
+    let n = n % 100;
+    n / 10 * 16 + n % 10
 }
 
 // Total: halves that are no decimal digits count as they are.
@@ -50,77 +40,43 @@ pub fn from_bcd(b: u8) -> u8
 fn decimal(b: u8) -> bool
     ensures { result ≡ digits b }
 {
-    if b / 16 > 9 {
-        return false;
-    }
-    b % 16 <= 9
+    b / 16 <= 9 && b % 16 <= 9
 }
 
 pub fn clock_fits(clock: Clock) -> bool
     ensures { result ≡ clock_fits clock }
 {
-    if clock.day < 1 {
-        return false;
-    }
-    if clock.day > 366 {
-        return false;
-    }
-    if clock.hour > 23 {
-        return false;
-    }
-    if clock.minute > 59 {
-        return false;
-    }
-    if clock.second > 59 {
-        return false;
-    }
-    clock.ms <= 999
+    (1..=366).contains(&clock.day)
+        && clock.hour <= 23
+        && clock.minute <= 59
+        && clock.second <= 59
+        && clock.ms <= 999
 }
 
-// Each character is judged by itself, before the time that they tell.
-fn digits_fit(body: &[u8]) -> bool
-    requires { length body.now ≡ 7 }
-    ensures { result ≡ digits_fit body.now }
+// The time that seven characters tell, if it is one: each character is judged by itself, before the time that they tell.
+fn time_told(chars: &[u8]) -> Option<Clock>
+    ensures { result ≡ cond (good_time chars.now) (Some (time_in chars.now)) None }
 {
-    if body[0] > 9 {
-        return false;
-    }
-    if !decimal(body[1]) {
-        return false;
-    }
-    if !decimal(body[2]) {
-        return false;
-    }
-    if !decimal(body[3]) {
-        return false;
-    }
-    if !decimal(body[4]) {
-        return false;
-    }
-    body[5] <= 15
+    let &[hundreds, day, hour, minute, second, high, low] = chars else {
+        return None;
+    };
+    let decimals = decimal(day) && decimal(hour) && decimal(minute) && decimal(second);
+    let digits = hundreds <= 9 && decimals && high <= 15;
+    let time = Clock {
+        day: u16::from(hundreds) * 100 + u16::from(from_bcd(day)),
+        hour: from_bcd(hour),
+        minute: from_bcd(minute),
+        second: from_bcd(second),
+        ms: u16::from_be_bytes([high, low]),
+    };
+    (digits && clock_fits(time)).then_some(time)
 }
 
-fn time_in(body: &[u8]) -> Clock
-    requires { length body.now ≡ 7 }
-    ensures { result ≡ time_in body.now }
-{
-    Clock {
-        day: chars::wide(body[0]) as u16 * 100 + from_bcd(body[1]) as u16,
-        hour: from_bcd(body[2]),
-        minute: from_bcd(body[3]),
-        second: from_bcd(body[4]),
-        ms: chars::wide(body[5]) as u16 * 256 + chars::wide(body[6]) as u16,
-    }
-}
-
-// Seven characters that tell a time which is one: what a master may send, or believe.
+// What a master may send, or believe.
 pub fn good_time(chars: &[u8]) -> bool
     ensures { result ≡ good_time chars.now }
 {
-    if chars.len() != 7 {
-        return false;
-    }
-    digits_fit(chars) & clock_fits(time_in(chars))
+    time_told(chars).is_some()
 }
 
 // The clock takes the time sent, moved by the lag since, or stays.
@@ -130,23 +86,18 @@ pub fn set_time(clock: Clock, frame: Frame, body: &[u8], lag: u32) -> Set
     if body.len() != 7 {
         return Set {
             outcome: Outcome::WrongCount,
-            clock: clock,
+            clock,
         };
     }
-    if digits_fit(body) {
-        let time = time_in(body);
-        if clock_fits(time) {
-            if lag <= Clock::LAG {
-                return Set {
-                    outcome: Outcome::Done,
-                    clock: clock_after(time, lag),
-                };
-            }
-        }
-    }
-    Set {
-        outcome: Outcome::NotValid,
-        clock: clock,
+    match time_told(body) {
+        Some(time) if lag <= Clock::LAG => Set {
+            outcome: Outcome::Done,
+            clock: clock_after(time, lag),
+        },
+        _ => Set {
+            outcome: Outcome::NotValid,
+            clock,
+        },
     }
 }
 
@@ -154,14 +105,15 @@ fn write_time(clock: Clock, reply: &mut [u8])
     requires { clock_fits clock ≡ true }
     ensures { reply.new ≡ put reply.old reply_head (time_chars clock) }
 {
+    let [high, low] = clock.ms.to_be_bytes();
     let cs = [
         (clock.day / 100) as u8,
         to_bcd((clock.day % 100) as u8),
         to_bcd(clock.hour),
         to_bcd(clock.minute),
         to_bcd(clock.second),
-        (clock.ms / 256) as u8,
-        (clock.ms % 256) as u8,
+        high,
+        low,
     ];
     chars::copy(&cs, 0, 7, reply, Reply::HEAD);
 }
@@ -170,37 +122,32 @@ fn write_time(clock: Clock, reply: &mut [u8])
 pub fn read_time(clock: Clock, frame: Frame, body: &[u8], reply: &mut [u8]) -> Filled
     ensures { Fills reply.old reply.new (time_read_of clock (asked frame body.now)) result }
 {
-    if clock_fits(clock) {
-        if body.len() != 0 {
-            return Filled {
-                outcome: Outcome::WrongCount,
-                count: 0,
-            };
-        }
-        write_time(clock, reply);
+    if !clock_fits(clock) {
         return Filled {
-            outcome: Outcome::Done,
-            count: 7,
+            outcome: Outcome::NotConfigured,
+            count: 0,
         };
     }
+    if !body.is_empty() {
+        return Filled {
+            outcome: Outcome::WrongCount,
+            count: 0,
+        };
+    }
+    write_time(clock, reply);
     Filled {
-        outcome: Outcome::NotConfigured,
-        count: 0,
+        outcome: Outcome::Done,
+        count: 7,
     }
 }
 
 // Day 0 counts as day 1, as in the definition's difference.
-fn days_past(day: u16) -> u64
-    ensures { result ≡ day - 1 }
-{
-    if day == 0 { 0 } else { day as u64 - 1 }
-}
-
 fn time_of(clock: Clock) -> u64
     ensures { (result ≡ time_of clock) × (result < 10000000000000) }
 {
-    let minutes = (days_past(clock.day) * 24 + clock.hour as u64) * 60 + clock.minute as u64;
-    minutes * 60000 + clock.second as u64 * 1000 + clock.ms as u64
+    let days = u64::from(clock.day).saturating_sub(1);
+    let minutes = (days * 24 + u64::from(clock.hour)) * 60 + u64::from(clock.minute);
+    minutes * 60000 + u64::from(clock.second) * 1000 + u64::from(clock.ms)
 }
 
 fn clock_at(t: u64) -> Clock
@@ -220,6 +167,6 @@ fn clock_at(t: u64) -> Clock
 pub fn clock_after(clock: Clock, ms: u32) -> Clock
     ensures { result ≡ clock_after clock ms }
 {
-    let t = time_of(clock) + ms as u64;
+    let t = time_of(clock) + u64::from(ms);
     clock_at(t % YEAR)
 }

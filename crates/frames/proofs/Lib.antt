@@ -5,3 +5,4 @@ pub mod NumberLaws
 pub mod FillLaws
 pub mod LayLaws
 pub mod Unique
+pub mod Named

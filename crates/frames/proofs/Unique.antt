@@ -4,11 +4,13 @@ use Rattle.chars.specs.One.{One}
 use Rattle.frames.proofs.unit_of.Reads as unit-of
 use Rattle.frames.proofs.master_of.Reads as master-of
 use Rattle.frames.proofs.address_of.Reads as address-of
+use Rattle.frames.proofs.is_checked.Reads as is-checked
+use Rattle.frames.proofs.is_unreserved.Reads as is-unreserved
 use Rattle.frames.proofs.hear.Reads as hear
+use Rattle.frames.proofs.data_behind.Reads as data_behind
 use Rattle.frames.proofs.data_of.Reads as data_of
 use Rattle.frames.proofs.fill.Reads as fill
 use Rattle.frames.proofs.lay.Reads as lay
-use Rattle.frames.proofs.outcomes.number.Reads as number
 use Rattle.frames.proofs.outcomes.sending.Reads as sending
 use Rattle.frames.proofs.outcomes.is_answered.Reads as is-answered
 use Rattle.frames.proofs.outcomes.is_damaged.Reads as is-damaged
@@ -23,8 +25,17 @@ one-master_of κ a x y s t p q = p ∙ sym q
 pub one-address_of : One address-of.Post (λ κ r s. r)
 one-address_of κ a x y s t p q = p ∙ sym q
 
+pub one-is_unreserved : One is-unreserved.Post (λ κ r s. r)
+one-is_unreserved κ a x y s t p q = p ∙ sym q
+
+pub one-is_checked : One is-checked.Post (λ κ r s. r)
+one-is_checked κ a x y s t p q = p ∙ sym q
+
 pub one_hear : One hear.Post (λ κ r s. r)
 one_hear κ a x y s t p q = p ∙ sym q
+
+pub one_data_behind : One data_behind.Post (λ κ r s. r.now)
+one_data_behind κ a x y s t p q = p ∙ sym q
 
 pub one_data_of : One data_of.Post (λ κ r s. r.now)
 one_data_of κ a x y s t p q = p ∙ sym q
@@ -40,9 +51,6 @@ one_lay κ a x y s t p q = p.0 ∙ sym q.0
 
 pub one_lay_buffer : One lay.Post (λ κ r s. s.0.now)
 one_lay_buffer κ a x y s t p q = p.1 ∙ sym q.1
-
-pub one_number : One number.Post (λ κ r s. r)
-one_number κ a x y s t p q = p ∙ sym q
 
 pub one_sending : One sending.Post (λ κ r s. r)
 one_sending κ a x y s t p q = p ∙ sym q

@@ -7,23 +7,24 @@ ghost use Rattle.chars.specs.Word.{word};
 ghost use Rattle.checkword.specs.Check.{check_of};
 ghost use Rattle.checkword.specs.Line.{line};
 ghost use Rattle.model.specs.Frame.{unit_of, master_of, address_of, asked, whole, checked, frame_in, commands, paired, heard_of, head_chars};
+ghost use Rattle.model.specs.Inputs.{unreserved};
 ghost use Rattle.frames.specs.Framed.{asked_head, framed_in, laid_in};
 
 use chars::{copy, put_char, put_word, word_at};
 use checkword::{check_number, check_word};
-use model::{Frame, Heard, Master, Reply};
+use model::{Frame, Function, Heard, InternalCommand, Master, Reply};
 
 pub mod outcomes;
 
 // The data of a master's frame stand behind the six characters of its head.
 const DATA: usize = 6;
 
-// Function 20h, and its commands that make a pair.
-const INTERNAL: u8 = 0x20;
+// The function whose two commands make a pair.
+const INTERNAL: u8 = Function::Internal as u8;
 
-const WRITE: u8 = 0x30;
+const WRITE: u8 = InternalCommand::Write as u8;
 
-const EXECUTE: u8 = 0x31;
+const EXECUTE: u8 = InternalCommand::Execute as u8;
 
 pub fn unit_of(address: u16) -> u16
     ensures { result ≡ unit_of address }
@@ -40,8 +41,15 @@ pub fn master_of(address: u16) -> Master
 pub fn address_of(master: Master, unit: u16) -> u16
     ensures { result ≡ address_of master unit }
 {
-    let high = (master.0 % 32) as u16;
-    2048 * high + unit % 2048
+    2048 * u16::from(master.0 % 32) + unit % 2048
+}
+
+// No reserved bit of function 00's command is set.
+#[tactic(auto, unfolding(model::specs::Inputs::unreserved))]
+pub fn is_unreserved(command: u8) -> bool
+    ensures { result ≡ unreserved command }
+{
+    command / 2 % 2 == 0 && command / 16 % 4 == 0 && command / 128 == 0
 }
 
 // ---- a stretch
@@ -51,21 +59,15 @@ fn is_whole(stretch: &[u8]) -> bool
     ensures { result ≡ whole stretch.now }
 {
     let len = stretch.len();
-    if len < Frame::SHORTEST {
-        return false;
-    }
-    if len > Frame::LONGEST {
-        return false;
-    }
-    len - Frame::SHORTEST == word_at(stretch, 4) as usize
+    (Frame::SHORTEST..=Frame::LONGEST).contains(&len)
+        && len - Frame::SHORTEST == usize::from(word_at(stretch, 4))
 }
 
 // The last two characters are the check of all before them.
-fn is_checked(stretch: &[u8]) -> bool
-    requires { whole stretch.now ≡ true }
+pub fn is_checked(stretch: &[u8]) -> bool
     ensures { result ≡ checked stretch.now }
 {
-    let end = stretch.len() - 2;
+    let end = stretch.len().saturating_sub(2);
     word_at(stretch, end) == check_word(0, &stretch[..end])
 }
 
@@ -73,36 +75,25 @@ fn head_in(stretch: &[u8]) -> Frame
     requires { whole stretch.now ≡ true }
     ensures { result ≡ frame_in stretch.now }
 {
-    let address = word_at(stretch, 0);
-    let count = word_at(stretch, 4);
-    Frame::new(address, stretch[2], stretch[3], count as u8)
+    let count = word_at(stretch, 4) as u8;
+    Frame::new(word_at(stretch, 0), stretch[2], stretch[3], count)
 }
 
 // A frame of function 20h with this command, by itself whole and checked.
 fn is_command(stretch: &[u8], command: u8) -> bool
     ensures { result ≡ commands command stretch.now }
 {
-    if is_whole(stretch) {
-        if is_checked(stretch) {
-            return (stretch[2] == INTERNAL) & (stretch[3] == command);
-        }
-    }
-    false
+    is_whole(stretch) && is_checked(stretch) && stretch[2] == INTERNAL && stretch[3] == command
 }
 
 // A WRITE and one EXECUTE with the same address.
 fn is_pair(stretch: &[u8]) -> bool
     ensures { result ≡ paired stretch.now }
 {
-    if stretch.len() < Frame::WRITE {
-        return false;
-    }
-    if is_command(&stretch[..Frame::WRITE], WRITE) {
-        if is_command(&stretch[Frame::WRITE..], EXECUTE) {
-            return word_at(stretch, 0) == word_at(stretch, Frame::WRITE);
-        }
-    }
-    false
+    stretch.len() >= Frame::WRITE
+        && is_command(&stretch[..Frame::WRITE], WRITE)
+        && is_command(&stretch[Frame::WRITE..], EXECUTE)
+        && word_at(stretch, 0) == word_at(stretch, Frame::WRITE)
 }
 
 // Length is judged before the check, so that a stretch cut short is never called one with wrong check characters; what is no whole frame
@@ -117,23 +108,25 @@ pub fn hear(stretch: &[u8]) -> Heard
         return Heard::Wrong;
     }
     if is_pair(stretch) {
-        let write = head_in(&stretch[..Frame::WRITE]);
-        let execute = head_in(&stretch[Frame::WRITE..]);
-        return Heard::Pair(write, execute);
+        let (write, execute) = stretch.split_at(Frame::WRITE);
+        return Heard::Pair(head_in(write), head_in(execute));
     }
     Heard::Broken
 }
 
-// The data stand between head and check; a stretch too short for both has none.
-pub fn data_of<'a>(stretch: &'a [u8]) -> &'a [u8]
+// What stands between a head of so many characters and the check; a stretch too short for both has none.
+pub fn data_behind(stretch: &[u8], head: usize) -> &[u8]
+    ensures { result.now ≡ part stretch.now head (length stretch.now - (head + 2)) }
+{
+    let end = stretch.len().saturating_sub(2);
+    stretch.get(head..end).unwrap_or(&[])
+}
+
+// The data of a master's frame.
+pub fn data_of(stretch: &[u8]) -> &[u8]
     ensures { result.now ≡ part stretch.now 6 (length stretch.now - 8) }
 {
-    let len = stretch.len();
-    if len < Frame::SHORTEST {
-        return &stretch[..0];
-    }
-    let end = len - 2;
-    &stretch[DATA..end]
+    data_behind(stretch, DATA)
 }
 
 // The seven characters before a reply's data.
@@ -162,14 +155,12 @@ fn reply_number(head: Reply, first: u8) -> u64
     requires { head.count < 2 }
     ensures { result ≡ line (head_chars head ++ take head.count (first ∷ [])) * 2 ^ (8 * (1 - head.count)) }
 {
-    let front = (head.address as u64)
-        + (65536 * (head.function as u64)
-            + (16777216 * (head.status as u64)
-                + (4294967296 * (head.port as u64) + 1099511627776 * (head.count as u64))));
+    let [low, high] = head.address.to_le_bytes();
+    let (function, status, port) = (head.function, head.status, head.port);
     if head.count == 0 {
-        return 256 * front;
+        return u64::from_le_bytes([0, low, high, function, status, port, 0, 0]);
     }
-    front + 72057594037927936 * (first as u64)
+    u64::from_le_bytes([low, high, function, status, port, 1, 0, first])
 }
 
 // Head and check characters go round data that stand in the buffer already. How many characters the reply has;
@@ -177,7 +168,7 @@ fn reply_number(head: Reply, first: u8) -> u64
 pub fn fill(buffer: &mut [u8], head: Reply) -> usize
     ensures { (result ≡ length (framed_in buffer.old head)) × (buffer.new ≡ put buffer.old 0 (framed_in buffer.old head)) }
 {
-    let end = Reply::HEAD + (head.count as usize);
+    let end = Reply::HEAD + usize::from(head.count);
     if buffer.len() < end + 2 {
         return 0;
     }
@@ -206,8 +197,8 @@ fn put_asked(buffer: &mut [u8], frame: Frame, count: u16)
 fn asked_number(frame: Frame) -> u64
     ensures { result ≡ line (asked_head frame 0) * 2 ^ 16 }
 {
-    65536 * (frame.address as u64)
-        + (4294967296 * (frame.function as u64) + 1099511627776 * (frame.command as u64))
+    let [low, high] = frame.address.to_le_bytes();
+    u64::from_le_bytes([0, 0, low, high, frame.function, frame.command, 0, 0])
 }
 
 // A request as a master sends it goes into the front of the buffer: as many data as there are, whatever the head counts. How many characters

@@ -10,12 +10,9 @@ use lib.ListN.{get_or}
 use Rattle.chars.specs.Word.{word}
 use Rattle.chars.specs.Gather.{gather, up_from}
 use Rattle.chars.proofs.GatherLaws.{gather_append}
-use Rattle.model.specs.Frame.{Request}
 use Rattle.model.specs.Config.{has, two_bit, two_bits, simples, accumulators, analogs}
 use Rattle.model.specs.Contacts.{group_in}
-use Rattle.model.specs.Scan.{tells, refuses, with_no_data}
-use Rattle.model.specs.Inputs.{word_of, chosen, unreserved, inputs_of}
-use Rattle.model.specs.declared.Outcome.TheVariants.{Unknown}
+use Rattle.model.specs.Inputs.{word_of, chosen}
 
 module _ (table words : List ℕ) (n : ℕ) where
   pub word-taken : {v : ℕ} → has table n ≡ true → v ≡ get_or words n 0 → word_of table words n ≡ word v
@@ -25,16 +22,6 @@ module _ (table words : List ℕ) (n : ℕ) where
   pub word-left : has table n ≡ false → word_of table words n ≡ []
   unfolding word_of
   word-left e = simp e
-
-module _ (table words : List ℕ) (q : Request) where
-  pub inputs-known : unreserved q.command ≡ true
-      → inputs_of table words q ≡ with_no_data q (tells (gather (word_of table words) (chosen q.command)))
-  unfolding inputs_of
-  inputs-known e = simp e
-
-  pub inputs_unknown : unreserved q.command ≡ false → inputs_of table words q ≡ refuses Unknown
-  unfolding inputs_of
-  inputs_unknown e = simp e
 
 -- ---- the groups of contacts among the chosen numbers
 

@@ -1,5 +1,5 @@
 -- Two ends of a call that meet its contract are equal: what each public function promises says everything. Assumes nothing.
-use mathlib.Core.Path.{◌≡◌}
+use mathlib.Core.Path.{◌≡◌, sym, ◌∙◌}
 use Rattle.chars.specs.One.{One, OneWhere}
 use Rattle.model.proofs.Unique.{one_fill}
 use Rattle.inputs.proofs.scan.Reads as scan

@@ -6,11 +6,12 @@ ghost use Rattle.chars.specs.Gather.{Gathered, gather, up_from};
 ghost use Rattle.model.specs.Limits.{reply_head, longest_reply};
 ghost use Rattle.model.specs.Frame.{asked};
 ghost use Rattle.model.specs.Scan.{Fills, in_room};
-ghost use Rattle.model.specs.Inputs.{unreserved, chosen, word_of, inputs_of};
+ghost use Rattle.model.specs.Inputs.{chosen, word_of, inputs_of};
 ghost use Rattle.model.specs.Contacts.{group_in};
 ghost use Rattle.layout.specs.Unit.{unit_in, config_in};
 ghost use Rattle.layout.specs.Contacts.{Anew};
 
+use frames::is_unreserved;
 use layout::{UNIT, has_input, word_of};
 use model::{Filled, Frame, Input, Outcome, Reply};
 use points::refused;
@@ -33,13 +34,21 @@ fn run(unit: &[u8; UNIT], from: usize, n: usize, reply: &mut [u8], at: usize) ->
     to
 }
 
-fn kind(on: bool, unit: &[u8; UNIT], from: usize, n: usize, reply: &mut [u8], at: usize) -> usize
+// One kind, where it is chosen.
+fn kind(
+    chosen: bool,
+    unit: &[u8; UNIT],
+    from: usize,
+    n: usize,
+    reply: &mut [u8],
+    at: usize,
+) -> usize
     requires { (from + n ≤ 256) × (at + 2 * n ≤ length reply.old) }
     ensures gathered { Gathered (word_of (config_in unit.now).inputs (unit_in unit.now).words)
-        (cond on (up_from from n) []) reply.old at reply.new result }
+        (cond chosen (up_from from n) []) reply.old at reply.new result }
     ensures upper_bound { result ≤ at + 2 * n }
 {
-    if on {
+    if chosen {
         run(unit, from, n, reply, at)
     } else {
         at
@@ -53,25 +62,10 @@ fn kinds(unit: &[u8; UNIT], command: u8, reply: &mut [u8]) -> usize
         (chosen command) reply.old reply_head reply.new result }
     ensures upper_bound { result ≤ longest_reply }
 {
-    let a = kind(command / 4 % 2 == 1, unit, 0x00, 32, reply, Reply::HEAD);
-    let b = kind(command % 2 == 1, unit, 0x30, 16, reply, a);
-    let c = kind(command / 64 % 2 == 1, unit, 0x40, 32, reply, b);
-    kind(command / 8 % 2 == 1, unit, 0x80, 128, reply, c)
-}
-
-// Whether no reserved bit of a command is set.
-fn clear(command: u8) -> bool
-    ensures { result ≡ unreserved command }
-{
-    if command / 2 % 2 == 0 {
-        if command / 16 % 4 == 0 {
-            command / 128 == 0
-        } else {
-            false
-        }
-    } else {
-        false
-    }
+    let at = kind(command / 4 % 2 == 1, unit, 0x00, 32, reply, Reply::HEAD);
+    let at = kind(command % 2 == 1, unit, 0x30, 16, reply, at);
+    let at = kind(command / 64 % 2 == 1, unit, 0x40, 32, reply, at);
+    kind(command / 8 % 2 == 1, unit, 0x80, 128, reply, at)
 }
 
 pub fn scan<'a>(unit: &'a [u8; UNIT], frame: Frame, body: &'a [u8], reply: &mut [u8]) -> Filled
@@ -81,17 +75,16 @@ pub fn scan<'a>(unit: &'a [u8; UNIT], frame: Frame, body: &'a [u8], reply: &mut 
     if reply.len() < Reply::LONGEST {
         return refused(Outcome::BufferShort);
     }
-    if clear(frame.command) {
-        if body.len() != 0 {
-            return refused(Outcome::WrongCount);
-        }
-        let end = kinds(unit, frame.command, reply);
-        Filled {
-            outcome: Outcome::Done,
-            count: (end - Reply::HEAD) as u16,
-        }
-    } else {
-        refused(Outcome::Unknown)
+    if !is_unreserved(frame.command) {
+        return refused(Outcome::Unknown);
+    }
+    if !body.is_empty() {
+        return refused(Outcome::WrongCount);
+    }
+    let end = kinds(unit, frame.command, reply);
+    Filled {
+        outcome: Outcome::Done,
+        count: (end - Reply::HEAD) as u16,
     }
 }
 
@@ -109,10 +102,7 @@ fn groups_anew(unit: &mut [u8; UNIT])
 pub fn start_anew(unit: &mut [u8; UNIT], command: u8)
     ensures { Anew unit.old unit.new (gather (group_in (config_in unit.old).inputs) (chosen command)) }
 {
-    if command / 4 % 2 == 1 {
-        if layout::all_told(unit) {
-            return;
-        }
+    if command / 4 % 2 == 1 && !layout::all_told(unit) {
         groups_anew(unit);
     }
 }

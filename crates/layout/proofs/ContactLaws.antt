@@ -1,5 +1,5 @@
 -- Groups of contacts in a unit's memory: whether any waits for a reply, and groups that start anew. Assumes nothing.
-use Rattle.std.specs.Prelude.{◌≡◌, ℕ, ◌+◌, ◌*◌, ◌/◌, ◌%◌, ◌<◌, Bool, true, ◌&&◌, eqb, ltb, List, [], ◌∷◌, ◌++◌, length, get_or, set}
+use Rattle.std.specs.Prelude.{◌≡◌, ℕ, zero, suc, ◌+◌, ◌*◌, ◌/◌, ◌%◌, ◌<◌, ◌≤◌, Bool, true, ◌&&◌, eqb, ltb, List, [], ◌∷◌, ◌++◌, length, get_or, set}
 use mathlib.Core.Path.{refl, sym, ap, ◌∙◌}
 use native.Mathlib.Omega.{arith}
 use lib.Seq.{set-get_or}
@@ -7,7 +7,7 @@ use lib.Bits.{bit_or, or_shr}
 use borrow.Author.Tests.{eqb-true, eq-eqb, ltb-true, lt-ltb}
 use Rattle.chars.specs.Word.{Characters, word, word_at}
 use Rattle.chars.specs.Gather.{gather, up_from, every}
-use Rattle.model.specs.Config.{has, two_bit}
+use Rattle.model.specs.Config.{has, two_bit, none_in}
 use Rattle.model.specs.Contacts.{group_in, anew, unmarked, untallied}
 use Rattle.model.proofs.Conditions.{by_cond, and_left, and_right, every-up_from}
 use Rattle.layout.specs.Unit.{Unit, unit_long, region_start, words_region, changed_region, unit_in, set_changed, set_contacts, put_word, put_changed}
@@ -15,7 +15,7 @@ use Rattle.layout.specs.Contacts.{markless, changeless, told, all_told, Anew}
 use Rattle.layout.proofs.UnitLaws.{length-put_in, word_at_lem, changed_at, word-written, changed-written}
 use Rattle.layout.proofs.UnitOne.{unit-one}
 use Rattle.layout.proofs.RangeLaws.{same_bool}
-use Rattle.layout.proofs.JudgedLaws.{every-start, every-next, every_both, or_none}
+use Rattle.layout.proofs.JudgedLaws.{every-start, every-next, every_both, or_none, none-start, none-next}
 
 -- ---- whether any waits
 
@@ -35,10 +35,13 @@ pub markless-next : (u : List ℕ) (i x y : ℕ) → i < 32 → ltb x 256 ≡ ev
 unfolding markless
 markless-next u i x y h p e = rw (or_low x y, p, unmarked-low y, e, every-next, word_at_lem u i (omega arith))
 
-pub changeless-next : (u : List ℕ) (i x y : ℕ) → i < 32 → eqb x 0 ≡ every (changeless (unit_in u).changed) (up_from 0 i) → y ≡ get_or u (region_start changed_region + i) 0
-    → eqb (bit_or x y) 0 ≡ every (changeless (unit_in u).changed) (up_from 0 (i + 1))
+-- none of the groups' characters is other than 0
+pub changeless-none : (u : List ℕ) (n : ℕ) → n ≤ 32 → none_in u (region_start changed_region) n ≡ every (changeless (unit_in u).changed) (up_from 0 n)
 unfolding changeless
-changeless-next u i x y h p e = rw (or_none x y, p, e, every-next, changed_at u i h)
+changeless-none u zero h = sym (none-start u (region_start changed_region)) ∙ every-start _
+changeless-none u (suc n) h =
+    let z : n + 1 ≡ suc n = omega arith in
+    rw (← z, none-next, every-next, changeless-none u n (omega arith), changed_at u n (omega arith)) refl
 
 pub each_start : (f : ℕ → Bool) → true ≡ every f (up_from 0 0)
 each_start f = every-start f

@@ -1,6 +1,7 @@
 -- Laws of judging: tests that every number of a run passes, what stands in for the records, and the parts in the order of the code.
 -- Assumes nothing.
-use Rattle.std.specs.Prelude.{◌≡◌, ℕ, zero, suc, ◌+◌, ◌-◌, ◌*◌, ◌%◌, ◌<◌, ◌≤◌, Bool, true, false, cond, ◌&&◌, eqb, ltb, leb, List, [], ◌∷◌, ◌++◌, length, get_or, drop}
+use Rattle.std.specs.Prelude.{◌≡◌, ℕ, zero, suc, ◌+◌, ◌-◌, ◌*◌, ◌%◌, ◌<◌, ◌≤◌, Bool, true, false, cond, ◌&&◌, eqb, ltb, leb, List, [], ◌∷◌, ◌++◌, length, get_or, drop, None, Option, Some}
+use Rattle.std.specs.List.{fold}
 use mathlib.Core.Path.{refl, sym, ap, ◌∙◌}
 use native.Mathlib.Numerals.{add-one}
 use native.Mathlib.Nat.{mod-eq_of_lt}
@@ -23,8 +24,6 @@ use Rattle.model.specs.Plans.{planned, plans_fit}
 use Rattle.model.specs.Fits.{fits, areas_fit, core_fits, port_fits, history_fits, memory_fits, reply_fits, file_fits, samples_fit}
 use Rattle.model.specs.declared.Core.{Core}
 use Rattle.model.specs.declared.HistoryReply.{HistoryReply}
-use Rattle.model.specs.declared.Memory.{Memory}
-use Rattle.model.specs.declared.Memory.TheVariants.{Nothing, Remembered}
 use Rattle.model.specs.declared.Port.{Port}
 use Rattle.model.proofs.Conditions.{by_bool, every_append, and_left, and_right, and_both}
 use Rattle.layout.specs.Numbers.{clock_in, core_in, memory_in, port_in, readable}
@@ -127,8 +126,11 @@ pub none-next : (table : List ℕ) (low i : ℕ) → none_in table low (i + 1) �
 unfolding none_in
 none-next table low i = run_next (λ x. eqb x 0) refl table low i
 
-pub none-joined : (table : List ℕ) (low i any : ℕ) → eqb any 0 ≡ none_in table low i → eqb (bit_or any (get_or table (low + i) 0)) 0 ≡ none_in table low (i + 1)
-none-joined table low i any e = rw (or_none, none-next, e)
+-- all of them joined at once
+pub joined-none : (a : ℕ) (xs : List ℕ) → eqb (fold bit_or a xs) 0 ≡ (eqb a 0 && every (λ x. eqb x 0) xs)
+unfolding every
+joined-none a [] = sym (and-true (eqb a 0))
+joined-none a (x ∷ xs) = joined-none (bit_or a x) xs ∙ rw or_none (and_assoc (eqb a 0) (eqb x 0) (every (λ x. eqb x 0) xs))
 
 -- ---- every outcome of the plans is one
 
@@ -203,17 +205,17 @@ module _ (c : Config) (fs gs : Files) (same : (f : ℕ) → f < 32 → length (h
       (λ e. rw (same t.file.0 (file-low c.files t.file.0 e)))
       (λ e. rw e)
 
-  memory-same : (m : Memory) → memory_fits c fs m ≡ memory_fits c gs m
+  memory-same : (m : Option HistoryReply) → memory_fits c fs m ≡ memory_fits c gs m
   unfolding memory_fits
-  memory-same Nothing = refl
-  memory-same (Remembered t) = reply-same t
+  memory-same None = refl
+  memory-same (Some t) = reply-same t
 
-  history-same : (m : Memory) (ns ms : List ℕ) → history_fits c (record { memory = m; files = fs; dropped = ns }) ≡ history_fits c (record { memory = m; files = gs; dropped = ms })
+  history-same : (m : Option HistoryReply) (ns ms : List ℕ) → history_fits c (record { memory = m; files = fs; dropped = ns }) ≡ history_fits c (record { memory = m; files = gs; dropped = ms })
   unfolding history_fits
   history-same m ns ms = rw (every-same (file_fits c fs) (file_fits c gs) 32 file-same, memory-same m)
 
 -- the parts of the judgement, in their order
-fits-parts : (c : Config) (lent : ℕ) (plans counts taken : List ℕ) (core : Core) (memory : Memory) (port : Port)
+fits-parts : (c : Config) (lent : ℕ) (plans counts taken : List ℕ) (core : Core) (memory : Option HistoryReply) (port : Port)
     → fits_by c lent plans counts taken core memory port
     ≡ (valid_of c && (port_fits port && (core_fits c core && ((eqb lent c.block && every (samples_fit c (samples_by taken)) (up_from 0 most_means) && plans_fit plans)
     && history_fits c (record { memory = memory; files = files_by counts; dropped = [] })))))
@@ -221,7 +223,7 @@ unfolding fits_by kept_by fits areas_fit
 fits-parts c lent plans counts taken core memory port = rw (length-replicate {A = ℕ} lent 0)
 
 -- judged by the counts, a unit that holds so many records is judged as by its records
-pub fits_by_lem : (c : Config) (lent : ℕ) (counts taken : List ℕ) (core : Core) (memory : Memory) (port : Port) (areas : Areas) (fs : Files) (dropped : List ℕ)
+pub fits_by_lem : (c : Config) (lent : ℕ) (counts taken : List ℕ) (core : Core) (memory : Option HistoryReply) (port : Port) (areas : Areas) (fs : Files) (dropped : List ℕ)
     → length areas.block ≡ lent
     → ((p : ℕ) → p < most_means → length (samples_at areas.samples p) ≡ get_or taken p 0)
     → ((f : ℕ) → f < 32 → length (held_in fs f) ≡ get_or counts f 0)

@@ -1,5 +1,7 @@
 -- The means where they lie: places, windows behind the records, and judging; and the samples that are read from there. Assumes nothing.
-use Rattle.std.specs.Prelude.{◌≡◌, ℕ, zero, suc, ◌+◌, ◌-◌, ◌*◌, ◌<◌, ◌≤◌, Bool, true, false, cond, not, ◌&&◌, eqb, ltb, leb, List, [], ◌∷◌, ◌++◌, length, get_or, take, drop, set}
+use Rattle.std.specs.Prelude.{◌≡◌, ℕ, zero, suc, ◌+◌, ◌-◌, ◌*◌, ◌<◌, ◌≤◌, Bool, true, false, cond, not, ◌&&◌, eqb, ltb, leb, List, [], ◌∷◌, ◌++◌, length, get_or, take, drop, set, Option, Some, None}
+use Rattle.std.specs.List.{find, list_all, range_with_len}
+use Rattle.std.specs.Option.{option_map, option_eq}
 use mathlib.Core.Path.{refl, sym, ap, ◌∙◌}
 use native.Mathlib.Nat.{add-sub_of_le}
 use native.Mathlib.Numerals.{add-one}
@@ -10,18 +12,18 @@ use lib.ListN.{length-append, length-set, get_or-append}
 use lib.Seq.{get_or_at, get_or-drop, get_or-set_same, get_or-set_other, ext_get_or}
 use lib.Bits.{bit_and, bit_or}
 use lib.Dec.{lit<, lit≤}
-use borrow.Author.Tests.{eqb-true, le-leb, lt-leb, leb-true, leb-false, eq-eqb, ne_eqb, ltb-true, lt-ltb, le-ltb}
+use borrow.Author.Tests.{eqb-true, le-leb, lt-leb, leb-true, leb-false, eq-eqb, ne_eqb, ltb-true, ltb-false, lt-ltb, le-ltb}
 use Rattle.chars.specs.Gather.{gather, up_from, every}
 use Rattle.chars.specs.Put.{put, part}
 use Rattle.chars.specs.Word.{word, word_at}
 use Rattle.chars.proofs.PutLaws.{length-put, length_part, part-part, put_all, put-put, drop-put, get_d_put-before, get_d_put_in}
 use Rattle.chars.proofs.WordLaws.{length-word}
 use Rattle.chars.proofs.GatherLaws.{gather-each}
-use Rattle.model.specs.Limits.{most_samples}
-use Rattle.model.specs.Config.{Config, number_at, window_at, first_of, doublings_of, is_power, mean_valid, means_valid}
+use Rattle.model.specs.Limits.{most_samples, most_means}
+use Rattle.model.specs.Config.{Config, number_at, window_at, first_of, place_of, is_mean, doublings_of, is_power, mean_valid, means_valid}
 use Rattle.model.specs.Means.{samples_at, waits, struck_at, struck_to, equipped_now}
 use Rattle.model.specs.Fits.{samples_fit}
-use Rattle.model.proofs.Conditions.{by_bool, by_eqb, and_left, and_right, and_both, every-up_from, up_from-every, false-true}
+use Rattle.model.proofs.Conditions.{by_bool, by_eqb, and_left, and_right, every-up_from, up_from-every}
 use Rattle.model.proofs.Exact.{power, power_most}
 use Rattle.layout.specs.Regions.{start_in}
 use Rattle.layout.specs.Unit.{unit_sizes, config_sizes, region_start, calculations_region, windows_region, config_from, unit_from, unit_in, config_in, config_given}
@@ -30,7 +32,7 @@ use Rattle.layout.specs.Judged.{samples_by, means_judged}
 use Rattle.layout.proofs.RegionLaws.{region_part}
 use Rattle.layout.proofs.UnitLaws.{unit_figure, words_at_lem, given_word}
 use Rattle.layout.proofs.PlacedLaws.{mean_window_at, mean_window-past}
-use Rattle.layout.proofs.JudgedLaws.{or_none, sampled_by_lem}
+use Rattle.layout.proofs.JudgedLaws.{or_none, sampled_by_lem, every_both}
 use Rattle.layout.proofs.RangeLaws.{same_bool}
 use Rattle.layout.proofs.RecordsLaws.{upto-none, upto-past, upto-same}
 
@@ -48,6 +50,52 @@ module _ (f : ℕ → Bool) (p : ℕ) where
   pub first_none : first_of f p zero ≡ p
   unfolding first_of
   first_none = refl
+
+-- found where it stands, if it is below the end
+pub find-first : (f : ℕ → Bool) (p k : ℕ) → find f (range_with_len p k) ≡ cond (ltb (first_of f p k) (p + k)) (Some (first_of f p k)) None
+find-first f p zero = rw (first_none f p, le-ltb p (p + 0) (omega arith)) refl
+find-first f p (suc k) =
+    let z : p + suc k ≡ p + 1 + k = omega arith in
+    by_bool (f p)
+    (λ t. rw (t, first_here f p k t, lt-ltb p (p + suc k) (omega arith)) refl)
+    (λ t. rw (t, first_later f p k t, z) (find-first f (p + 1) k))
+
+range-last : (p n : ℕ) → range_with_len p n ++ ((p + n) ∷ []) ≡ range_with_len p (suc n)
+range-last p zero = ap (λ (x : ℕ). x ∷ []) (omega arith)
+range-last p (suc n) = let z : p + suc n ≡ p + 1 + n = omega arith in rw z (ap (λ (l : List ℕ). p ∷ l) (range-last (p + 1) n))
+
+range-up : (p n : ℕ) → range_with_len p n ≡ up_from p n
+unfolding up_from
+range-up p zero = refl
+range-up p (suc n) = sym (range-last p n) ∙ rw (range-up p n) refl
+
+all-every : (f : ℕ → Bool) (xs : List ℕ) → list_all f xs ≡ every f xs
+unfolding every
+all-every f [] = refl
+all-every f (x ∷ xs) = rw (all-every f xs) refl
+
+-- two tests of the sixteen places, one after the other
+pub means-each : (c : Config) (taken : List ℕ) → list_all (λ p. mean_valid c p && samples_fit c (samples_by taken) p) (range_with_len 0 16) ≡ means_judged c taken
+unfolding means_judged means_valid
+means-each c taken = all-every _ (range_with_len 0 16) ∙ ap (every _) (range-up 0 16) ∙ every_both (mean_valid c) (samples_fit c (samples_by taken)) 16
+
+-- a place below the last is that of a number
+pub place-eq : (c : Config) (n place : ℕ) {o : Option ℕ} → o ≡ cond (is_mean c n) (Some (place_of c n)) None → place < 16 → option_eq eqb o (Some place) ≡ eqb (place_of c n) place
+unfolding is_mean
+place-eq c n place e h =
+    by_bool (ltb (place_of c n) most_means)
+    (λ t. rw (e, t) refl)
+    (λ t. let l = ltb-false (place_of c n) most_means t in rw (e, t, ne_eqb (place_of c n) place (λ q. omega arith)) refl)
+
+-- a place that is used is below the last
+pub used-low : (u : List ℕ) (p : ℕ) → (window_at (config_in u) p ≡ 0 → ⊥) → p < 16
+unfolding window_at
+used-low u p k = by_bool (ltb p 16) (λ t. ltb-true p 16 t) (λ t. let l = ltb-false p 16 t in absurd (k (mean_window-past u p l)))
+
+-- an option as it is
+pub option-same : (o : Option ℕ) → option_map (λ (x : ℕ). x) o ≡ o
+option-same None = refl
+option-same (Some x) = refl
 
 -- ---- powers of two
 
@@ -164,21 +212,6 @@ module _ (u : List ℕ) (room : ℕ) {windows : ℕ} (k : windows ≡ windows_to
   -- or not even room for the windows
   pub few-judged : leb windows room ≡ false → leb windows room ≡ (leb (room_of (config_in u)) room && means_judged (config_in u) (unit_in u).taken)
   few-judged e = e ∙ sym (sym (some-judged refl refl) ∙ rw e refl)
-
--- what is wrong with one place is wrong with all
-pub place_wrong : (c : Config) (taken : List ℕ) (p : ℕ) → p < 16 → (mean_valid c p && samples_fit c (samples_by taken) p) ≡ false → false ≡ means_judged c taken
-unfolding means_judged means_valid
-place_wrong c taken p h e =
-    by_bool (every (mean_valid c) (up_from 0 16) && every (samples_fit c (samples_by taken)) (up_from 0 16))
-    (λ t. false-true (sym e ∙ and_both (every-up_from (mean_valid c) 0 16 (and_left (every (mean_valid c) (up_from 0 16)) _ t) p (omega arith) h)
-    (every-up_from (samples_fit c (samples_by taken)) 0 16 (and_right (every (mean_valid c) (up_from 0 16)) _ t) p (omega arith) h)))
-    (λ t. sym t)
-
-pub places_right : (c : Config) (taken : List ℕ) → ((p : ℕ) → p < 16 → (mean_valid c p && samples_fit c (samples_by taken) p) ≡ true) → true ≡ means_judged c taken
-unfolding means_judged means_valid
-places_right c taken h =
-    sym (and_both (up_from-every (mean_valid c) 0 16 (λ p l k. and_left (mean_valid c p) _ (h p k)))
-    (up_from-every (samples_fit c (samples_by taken)) 0 16 (λ p l k. and_right (mean_valid c p) _ (h p k))))
 
 -- ---- the samples as they are read
 

@@ -1,5 +1,6 @@
 -- Numbers written are read as what was written, and readable numbers are those written for what they mean. Assumes nothing.
-use Rattle.std.specs.Prelude.{◌≡◌, ℕ, zero, suc, ◌%◌, ◌<◌, Bool, true, false, eqb, List, [], ◌∷◌, length, get_or, drop}
+use mir.Val.{bool_byte}
+use Rattle.std.specs.Prelude.{◌≡◌, ℕ, zero, suc, ◌%◌, ◌<◌, Bool, true, false, eqb, List, [], ◌∷◌, length, get_or, drop, Option, Some}
 use mathlib.Core.Path.{refl, sym, ◌∙◌}
 use native.Mathlib.Omega.{arith}
 use native.Mathlib.Nat.{mod-eq_of_lt}
@@ -10,12 +11,8 @@ use Rattle.model.specs.declared.Select.{Select}
 use Rattle.model.specs.declared.Hold.{Hold}
 use Rattle.model.specs.declared.Hold.TheVariants.{Held, TimedOut}
 use Rattle.model.specs.declared.Write.{Write}
-use Rattle.model.specs.declared.Pending.{Pending}
-use Rattle.model.specs.declared.Pending.TheVariants.{Waits}
 use Rattle.model.specs.declared.HistoryReply.{HistoryReply}
 use Rattle.model.specs.declared.Core.{Core}
-use Rattle.model.specs.declared.Memory.{Memory}
-use Rattle.model.specs.declared.Memory.TheVariants.{Remembered}
 use Rattle.model.specs.declared.Mark.{Mark}
 use Rattle.model.specs.declared.Mark.TheVariants.{Fine, Silent, Damaged}
 use Rattle.model.specs.declared.Port.{Port}
@@ -73,6 +70,20 @@ Bit on n = (n ≡ bit_of on) × (eqb n 1 ≡ on)
 back : {x n : ℕ} → Byte x n → n % 256 ≡ x
 back b = mod-eq_of_lt b.1 ∙ b.0
 
+pub bit-back : (b : Bool) → eqb (bit_of b) 1 ≡ b
+unfolding bit_of
+bit-back true = refl
+bit-back false = refl
+
+-- a flag as a number
+pub flag-number : (b : Bool) → bool_byte b ≡ bit_of b
+unfolding bit_of
+flag-number true = refl
+flag-number false = refl
+
+pub bit_told : {b : Bool} {n : ℕ} → n ≡ bool_byte b → Bit b n
+bit_told {b = b} e = let z = e ∙ flag-number b in (z, rw z (bit-back b))
+
 abbrev pub HoldBack : Hold → HoldNumbers → Type 0
 HoldBack h n = (n ≡ hold_numbers h) × (hold_in n ≡ h)
 
@@ -90,29 +101,29 @@ pub timed_out_back : {t : Master} {h : Hold} {m : ℕ} → h ≡ TimedOut t → 
 unfolding hold_numbers hold_in
 timed_out_back e m = rw e (λ i. record { hold = 2; master = m.0 i; output = 0; close = 0; age = 0 }, λ i. TimedOut (record { 0 = back m i }))
 
-abbrev pub WriteBack : Pending → WriteNumbers → Type 0
+abbrev pub WriteBack : Option Write → WriteNumbers → Type 0
 WriteBack p n = (n ≡ write_numbers p) × (write_in n ≡ p)
 
-pub waits_back : {w : Write} {p : Pending} {m o : ℕ} → p ≡ Waits w → Byte w.master.0 m → Byte w.ordinal.0 o
+pub waits_back : {w : Write} {p : Option Write} {m o : ℕ} → p ≡ Some w → Byte w.master.0 m → Byte w.ordinal.0 o
     → WriteBack p (record { write = 1; master = m; bias = w.bias; ordinal = o; age = w.age })
 unfolding write_numbers write_in
 waits_back {w} e m o =
     rw e (
       λ i. record { write = 1; master = m.0 i; bias = w.bias; ordinal = o.0 i; age = w.age },
-      λ i. Waits (record { master = record { 0 = back m i }; bias = w.bias; ordinal = record { 0 = back o i }; age = w.age }),
+      λ i. Some (record { master = record { 0 = back m i }; bias = w.bias; ordinal = record { 0 = back o i }; age = w.age }),
     )
 
-abbrev pub MemoryBack : Memory → MemoryNumbers → Type 0
+abbrev pub MemoryBack : Option HistoryReply → MemoryNumbers → Type 0
 MemoryBack m n = (n ≡ memory_numbers m) × (reply_in n ≡ m)
 
-pub remembered_back : {t : HistoryReply} {w : Memory} {m f d q b : ℕ} → w ≡ Remembered t
+pub remembered_back : {t : HistoryReply} {w : Option HistoryReply} {m f d q b : ℕ} → w ≡ Some t
     → Byte t.master.0 m → Byte t.file.0 f → Bit t.dump d → Byte t.quantity q → Bit t.more b
     → MemoryBack w (record { memory = 1; master = m; file = f; dump = d; quantity = q; more = b })
 unfolding memory_numbers reply_in
 remembered_back e m f d q b =
     rw e (
       λ i. record { memory = 1; master = m.0 i; file = f.0 i; dump = d.0 i; quantity = q.0 i; more = b.0 i },
-      λ i. Remembered (record { master = record { 0 = back m i }; file = record { 0 = back f i }; dump = d.1 i; quantity = back q i; more = b.1 i }),
+      λ i. Some (record { master = record { 0 = back m i }; file = record { 0 = back f i }; dump = d.1 i; quantity = back q i; more = b.1 i }),
     )
 
 -- a list of n numbers, number by number
@@ -126,11 +137,6 @@ all_firsts zero [] e = refl
 all_firsts zero (x ∷ xs) e = absurd (omega arith)
 all_firsts (suc n) [] e = absurd (omega arith)
 all_firsts (suc n) (x ∷ xs) e = let l : length xs ≡ n = omega arith in λ i. x ∷ all_firsts n xs l i
-
-pub bit-back : (b : Bool) → eqb (bit_of b) 1 ≡ b
-unfolding bit_of
-bit-back true = refl
-bit-back false = refl
 
 pub mark-back : (m : Mark) → mark_in (mark_number m) ≡ m
 unfolding mark_in mark_number
@@ -162,7 +168,7 @@ core-back {k} ks l t h n =
     })
 
 -- what was written, is readable
-pub written-readable : {core : Core} {memory : Memory} {port : Port} {ks : List ℕ} → Written core memory port ks → readable ks ≡ true
+pub written-readable : {core : Core} {memory : Option HistoryReply} {port : Port} {ks : List ℕ} → Written core memory port ks → readable ks ≡ true
 unfolding readable
 written-readable {ks = ks} w =
     rw (w.means.core, w.means.memory, w.means.port, ← w.plain) (same_refl ks)

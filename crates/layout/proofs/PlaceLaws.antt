@@ -1,13 +1,13 @@
 -- One part of readable numbers written anew: they are readable, and mean the same but for that part. Assumes nothing.
-use Rattle.std.specs.Prelude.{◌≡◌, ℕ, ◌<◌, Bool, List}
+use Rattle.std.specs.Prelude.{◌≡◌, ℕ, ◌<◌, Bool, List, Option}
 use mathlib.Core.Path.{refl, ◌∙◌}
 use native.Mathlib.Nat.{mod-eq_of_lt}
 use Rattle.model.specs.Step.{with_clock, with_hold, with_write, with_configure, with_error, with_broadcast}
 use Rattle.model.specs.declared.Clock.{Clock}
 use Rattle.model.specs.declared.Hold.{Hold}
-use Rattle.model.specs.declared.Pending.{Pending}
+use Rattle.model.specs.declared.Write.{Write}
+use Rattle.model.specs.declared.HistoryReply.{HistoryReply}
 use Rattle.model.specs.declared.Core.{Core}
-use Rattle.model.specs.declared.Memory.{Memory}
 use Rattle.model.specs.declared.Port.{Port}
 use Rattle.layout.specs.Numbers.{
   hold_numbers,
@@ -34,7 +34,7 @@ use Rattle.layout.specs.Numbers.{
 }
 use Rattle.layout.proofs.NumbersLaws.{bit-back, mark-back}
 
-module _ {k : Core} {w : Memory} {p : Port} {ks : List ℕ} (a : Written k w p ks) {ls : List ℕ} where
+module _ {k : Core} {w : Option HistoryReply} {p : Port} {ks : List ℕ} (a : Written k w p ks) {ls : List ℕ} where
   -- the clock
   pub clock-written : {t : Clock} → (ls ≡ put_clock t ks) × (t.hour < 256) × (t.minute < 256) × (t.second < 256) → Written (with_clock k t) w p ls
   unfolding numbers_of clock_in core_in memory_in port_in
@@ -50,7 +50,7 @@ module _ {k : Core} {w : Memory} {p : Port} {ks : List ℕ} (a : Written k w p k
       rw (b.0, a.plain) (record { plain = refl; means = record { core = λ i. record { clock = (s.core i).clock; hold = b.1 i; write = (s.core i).write; configure = (s.core i).configure; error = (s.core i).error; broadcast = (s.core i).broadcast }; memory = s.memory; port = s.port } })
 
   -- the write
-  pub write-written : {n : Pending} → (ls ≡ put_write (write_numbers n) ks) × (write_in (write_numbers n) ≡ n) → Written (with_write k n) w p ls
+  pub write-written : {n : Option Write} → (ls ≡ put_write (write_numbers n) ks) × (write_in (write_numbers n) ≡ n) → Written (with_write k n) w p ls
   unfolding numbers_of clock_in core_in memory_in port_in
   write-written b =
       let s = rw a.plain at a.means in
@@ -78,7 +78,7 @@ module _ {k : Core} {w : Memory} {p : Port} {ks : List ℕ} (a : Written k w p k
       rw (b, a.plain) (record { plain = refl; means = record { core = λ i. record { clock = (s.core i).clock; hold = (s.core i).hold; write = (s.core i).write; configure = (s.core i).configure; error = (s.core i).error; broadcast = bit-back on i }; memory = s.memory; port = s.port } })
 
   -- the remembered history reply
-  pub memory-written : {m : Memory} → (ls ≡ put_memory (memory_numbers m) ks) × (reply_in (memory_numbers m) ≡ m) → Written k m p ls
+  pub memory-written : {m : Option HistoryReply} → (ls ≡ put_memory (memory_numbers m) ks) × (reply_in (memory_numbers m) ≡ m) → Written k m p ls
   unfolding numbers_of clock_in core_in memory_in port_in
   memory-written b =
       let s = rw a.plain at a.means in

@@ -4,19 +4,11 @@ use mathlib.Core.Path.{refl, ◌∙◌}
 use native.Mathlib.Omega.{arith}
 use Rattle.chars.specs.Word.{word_at}
 use Rattle.layout.specs.Regions.{region_in}
-use Rattle.layout.specs.Unit.{unit_sizes, region_start, means_region, sampled_region, windows_region, taken_region, words_in, config_from, unit_from, unit_in, config_in}
-use Rattle.layout.proofs.RegionLaws.{region_at, region_past}
+use Rattle.layout.specs.Unit.{unit_sizes, region_start, windows_region, taken_region, words_in, config_from, unit_from, unit_in, config_in}
+use Rattle.layout.proofs.RegionLaws.{region_past}
 use Rattle.layout.proofs.UnitLaws.{region_word, words_at_lem}
 
 module _ (u : List ℕ) (p : ℕ) (h : p < 16) where
-  pub mean_number_at : get_or (config_in u).means p 0 ≡ get_or u (region_start means_region + p) 0
-  unfolding unit_from config_from unit_sizes
-  mean_number_at = region_at unit_sizes u means_region p h
-
-  pub mean_analog_at : get_or (config_in u).sampled p 0 ≡ get_or u (region_start sampled_region + p) 0
-  unfolding unit_from config_from unit_sizes
-  mean_analog_at = region_at unit_sizes u sampled_region p h
-
   pub mean_window_at : get_or (config_in u).windows p 0 ≡ word_at u (region_start windows_region + 2 * p)
   unfolding unit_from config_from unit_sizes
   mean_window_at = words_at_lem (region_in unit_sizes u windows_region) p ∙ region_word u windows_region (2 * p) (omega arith)
@@ -27,14 +19,6 @@ module _ (u : List ℕ) (p : ℕ) (h : p < 16) where
 
 -- a place past the last is not used
 module _ (u : List ℕ) (p : ℕ) (h : 16 ≤ p) where
-  pub mean_number-past : get_or (config_in u).means p 0 ≡ 0
-  unfolding unit_from config_from unit_sizes
-  mean_number-past = region_past unit_sizes u means_region p h
-
-  pub mean_analog_past : get_or (config_in u).sampled p 0 ≡ 0
-  unfolding unit_from config_from unit_sizes
-  mean_analog_past = region_past unit_sizes u sampled_region p h
-
   words-past : (k : ℕ) → get_or unit_sizes k 0 ≡ 32 → get_or (words_in (region_in unit_sizes u k)) p 0 ≡ 0
   unfolding word_at
   words-past k e = words_at_lem (region_in unit_sizes u k) p ∙ rw (region_past unit_sizes u k (2 * p) (omega arith), region_past unit_sizes u k (2 * p + 1) (omega arith))

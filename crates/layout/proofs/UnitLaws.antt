@@ -11,7 +11,7 @@ use Rattle.chars.specs.Word.{word, value, word_at}
 use Rattle.chars.proofs.PutLaws.{length-put, put-none, put_one, put_all, put_then}
 use Rattle.chars.proofs.WordLaws.{length-word, length-value}
 use Rattle.layout.specs.Regions.{start_in, region_in, set_at}
-use Rattle.layout.specs.Unit.{Unit, Renumbered, NumbersOnly, numbers_in, config_sizes, unit_sizes, unit_long, region_start, layout_region, number_region, length_region, inputs_region, outputs_region, calculations_region, files_region, values_region, oldest_region, numbers_region, words_region, results_region, fixed_region, counts_region, dropped_region, changed_region, taken_region, plans_region, words_in, results_in, config_from, unit_from, unit_in, config_in, set_numbers, set_words, set_values, set_fixed, set_counts, set_dropped, set_changed, set_taken, set_plans, put_in, put_number, put_word, put_value, put_fixed, put_count, put_counts, put_dropped, put_changed, put_taken, put_plans_at, put_plans}
+use Rattle.layout.specs.Unit.{Unit, Renumbered, NumbersOnly, numbers_in, config_sizes, unit_sizes, unit_long, region_start, layout_region, number_region, length_region, files_region, values_region, numbers_region, words_region, results_region, fixed_region, counts_region, dropped_region, changed_region, taken_region, plans_region, words_in, results_in, config_from, unit_from, unit_in, config_in, set_numbers, set_words, set_values, set_fixed, set_counts, set_dropped, set_changed, set_taken, set_plans, put_in, put_number, put_word, put_value, put_fixed, put_count, put_counts, put_dropped, put_changed, put_taken, put_plans_at, put_plans}
 use Rattle.layout.proofs.RegionLaws.{regions_put, region_whole, region_at, region_past, region_part, region_own, region_most}
 
 -- how long a lent unit is: UNIT of src/lib.rt, as the prover tells the length of an array
@@ -153,7 +153,7 @@ no_value : (r : List ℕ) (n : ℕ) → length r ≤ 4 * n → word_at r (4 * n)
 unfolding word_at
 no_value r n h = rw (get_or-eq_default r 0 {n = 4 * n} h, get_or-eq_default r 0 {n = 4 * n + 1} (omega arith), get_or-eq_default r 0 {n = 4 * n + 2} (omega arith), get_or-eq_default r 0 {n = 4 * n + 2 + 1} (omega arith))
 
-values_at : (r : List ℕ) (n : ℕ) → get_or (results_in r) n 0 ≡ word_at r (4 * n) + 65536 * word_at r (4 * n + 2)
+pub values_at : (r : List ℕ) (n : ℕ) → get_or (results_in r) n 0 ≡ word_at r (4 * n) + 65536 * word_at r (4 * n + 2)
 unfolding results_in word_at
 values_at [] n = omega arith
 values_at (a ∷ []) zero = omega arith
@@ -264,18 +264,6 @@ module _ (u : List ℕ) where
   length_is = let f : region_start length_region + 0 ≡ region_start length_region = omega arith in region_word u length_region 0 (lit≤ tt) ∙ ap (word_at u) f
 
 module _ (u : List ℕ) (n : ℕ) (h : n < 256) where
-  pub input_at : get_or (config_in u).inputs n 0 ≡ get_or u (region_start inputs_region + n) 0
-  unfolding unit_from config_from unit_sizes
-  input_at = region_at unit_sizes u inputs_region n h
-
-  pub output_at : get_or (config_in u).outputs n 0 ≡ get_or u (region_start outputs_region + n) 0
-  unfolding unit_from config_from unit_sizes
-  output_at = region_at unit_sizes u outputs_region n h
-
-  pub calculation_at : get_or (config_in u).calculations n 0 ≡ get_or u (region_start calculations_region + n) 0
-  unfolding unit_from config_from unit_sizes
-  calculation_at = region_at unit_sizes u calculations_region n h
-
   pub word_at_lem : get_or (unit_in u).words n 0 ≡ word_at u (region_start words_region + 2 * n)
   unfolding unit_from unit_sizes
   word_at_lem = words_at_lem (region_in unit_sizes u words_region) n ∙ region_word u words_region (2 * n) (omega arith)
@@ -293,23 +281,10 @@ module _ (u : List ℕ) (f : ℕ) (h : f < 32) where
   unfolding unit_from unit_sizes
   count_at = region_at unit_sizes u counts_region f h
 
-  pub oldest_at : get_or (config_in u).oldest f 0 ≡ get_or u (region_start oldest_region + f) 0
-  unfolding unit_from config_from unit_sizes
-  oldest_at = region_at unit_sizes u oldest_region f h
-
-  pub dropped_at : get_or (unit_in u).dropped f 0 ≡ word_at u (region_start dropped_region + 2 * f)
-  unfolding unit_from unit_sizes
-  dropped_at = words_at_lem (region_in unit_sizes u dropped_region) f ∙ region_word u dropped_region (2 * f) (omega arith)
-
 module _ (u : List ℕ) (g : ℕ) where
   pub changed_at : g < 32 → get_or (unit_in u).changed g 0 ≡ get_or u (region_start changed_region + g) 0
   unfolding unit_from unit_sizes
   changed_at h = region_at unit_sizes u changed_region g h
-
-  -- no group is numbered 32 or over
-  pub changed-past : 32 ≤ g → get_or (unit_in u).changed g 0 ≡ 0
-  unfolding unit_from unit_sizes
-  changed-past h = region_past unit_sizes u changed_region g h
 
 pub kept_at : (u : List ℕ) (i : ℕ) → i < 26 → get_or (unit_in u).numbers i 0 ≡ word_at u (region_start numbers_region + 2 * i)
 unfolding unit_from unit_sizes
@@ -320,39 +295,6 @@ unfolding unit_from unit_sizes word_at
 kept-past u i h =
     let p : (j : ℕ) → 52 ≤ j → get_or (region_in unit_sizes u numbers_region) j 0 ≡ 0 = region_past unit_sizes u numbers_region in
     words_at_lem (region_in unit_sizes u numbers_region) i ∙ rw (p (2 * i) (omega arith), p (2 * i + 1) (omega arith))
-
--- no file is numbered 32 or over
-module _ (u : List ℕ) (f : ℕ) (h : 32 ≤ f) where
-  pub values_of_past : get_or (config_in u).values f 0 ≡ 0
-  unfolding unit_from config_from unit_sizes
-  values_of_past = region_past unit_sizes u values_region f h
-
-  pub count_past : get_or (unit_in u).counts f 0 ≡ 0
-  unfolding unit_from unit_sizes
-  count_past = region_past unit_sizes u counts_region f h
-
-  pub oldest-past : get_or (config_in u).oldest f 0 ≡ 0
-  unfolding unit_from config_from unit_sizes
-  oldest-past = region_past unit_sizes u oldest_region f h
-
-  pub dropped-past : get_or (unit_in u).dropped f 0 ≡ 0
-  unfolding unit_from unit_sizes word_at
-  dropped-past =
-      let p : (i : ℕ) → 64 ≤ i → get_or (region_in unit_sizes u dropped_region) i 0 ≡ 0 = region_past unit_sizes u dropped_region in
-      words_at_lem (region_in unit_sizes u dropped_region) f ∙ rw (p (2 * f) (omega arith), p (2 * f + 1) (omega arith))
-
-pub value_at : (u : List ℕ) (n : ℕ) → n < 128
-    → get_or (unit_in u).values n 0 ≡ word_at u (region_start results_region + 4 * n) + 65536 * word_at u (region_start results_region + 4 * n + 2)
-unfolding unit_from unit_sizes
-value_at u n h =
-    let e : region_start results_region + (4 * n + 2) ≡ region_start results_region + 4 * n + 2 = omega arith in
-    values_at (region_in unit_sizes u results_region) n ∙ rw (region_word u results_region (4 * n) (omega arith), region_word u results_region (4 * n + 2) (omega arith), e)
-
-pub value-past : (u : List ℕ) (n : ℕ) → 128 ≤ n → get_or (unit_in u).values n 0 ≡ 0
-unfolding unit_from unit_sizes word_at
-value-past u n h =
-    let p : (i : ℕ) → 512 ≤ i → get_or (region_in unit_sizes u results_region) i 0 ≡ 0 = region_past unit_sizes u results_region in
-    values_at (region_in unit_sizes u results_region) n ∙ rw (p (4 * n) (omega arith), p (4 * n + 1) (omega arith), p (4 * n + 2) (omega arith), p (4 * n + 2 + 1) (omega arith))
 
 -- the fixed area and the plans are parts of the memory
 module _ (u : List ℕ) where

@@ -1,5 +1,5 @@
 -- A unit judged by what is lent: its memory, and in place of its records how many each file holds.
-use Rattle.std.specs.Prelude.{ℕ, Bool, ◌&&◌, List, [], map, replicate, ◌==◌, nat_le, nat_lt, slice_index}
+use Rattle.std.specs.Prelude.{ℕ, Bool, ◌&&◌, List, [], map, replicate, ◌==◌, nat_le, nat_lt, slice_index, Option}
 use Rattle.chars.specs.Gather.{up_from, every}
 use Rattle.model.specs.Limits.{most_means}
 use Rattle.model.specs.Clock.{clock_fits}
@@ -32,7 +32,7 @@ use Rattle.layout.specs.Unit.{layout_number, unit_in, config_in}
 use Rattle.layout.specs.Records.{room_of}
 use Rattle.layout.specs.declared.memory.MemoryNumbers.{MemoryNumbers}
 use Rattle.model.specs.declared.Core.{Core}
-use Rattle.model.specs.declared.Memory.{Memory}
+use Rattle.model.specs.declared.HistoryReply.{HistoryReply}
 use Rattle.model.specs.declared.Port.{Port}
 
 -- files that hold as many records as counted, each without a character
@@ -44,7 +44,7 @@ unfoldable pub samples_by : List ℕ → List (List ℕ)
 samples_by taken = map (λ n. replicate n 0) taken
 
 -- a kept state with a block of that length, those plans and as many records and samples as counted: what else it holds, fits never asks
-unfoldable pub kept_by : ℕ → List ℕ → List ℕ → List ℕ → Core → Memory → Port → State
+unfoldable pub kept_by : ℕ → List ℕ → List ℕ → List ℕ → Core → Option HistoryReply → Port → State
 kept_by lent plans counts taken core memory port =
     record {
       inner = record {
@@ -56,7 +56,7 @@ kept_by lent plans counts taken core memory port =
     }
 
 -- fits, of a unit of which only the length of the block, the plans and the numbers of records and samples are at hand
-unfoldable pub fits_by : Config → ℕ → List ℕ → List ℕ → List ℕ → Core → Memory → Port → Bool
+unfoldable pub fits_by : Config → ℕ → List ℕ → List ℕ → List ℕ → Core → Option HistoryReply → Port → Bool
 fits_by c lent plans counts taken core memory port = fits c (kept_by lent plans counts taken core memory port)
 
 -- the same of a unit's memory, with the room that is lent for records: of this layout, enough room, and numbers of a unit, which fits

@@ -1,9 +1,9 @@
 -- All that a unit keeps: what its owner lends, what that means, and the definition's state for which it stands.
-use Rattle.std.specs.Prelude.{◌≡◌, ℕ, Bool, ◌&&◌, List, length, ◌==◌, nat_le}
+use Rattle.std.specs.Prelude.{◌≡◌, ℕ, Bool, ◌&&◌, List, length, ◌==◌, nat_le, Option}
 use Rattle.model.specs.Config.{Config}
 use Rattle.model.specs.State.{Areas, Files, History, Inner, State}
 use Rattle.model.specs.declared.Core.{Core}
-use Rattle.model.specs.declared.Memory.{Memory}
+use Rattle.model.specs.declared.HistoryReply.{HistoryReply}
 use Rattle.model.specs.declared.Port.{Port}
 use Rattle.layout.specs.Records.{Layout, packed, files_laid, files_in, samples_laid, room_of}
 use Rattle.layout.specs.Numbers.{core_in, memory_in, port_in, readable}
@@ -11,7 +11,7 @@ use Rattle.layout.specs.Unit.{Unit, layout_number, unit_in, config_in, numbers_i
 
 pub record Kept : Type 0 where
   pub core : Core
-  pub memory : Memory
+  pub memory : Option HistoryReply
   pub port : Port
   pub words : List ℕ
   pub results : List ℕ
@@ -24,7 +24,7 @@ pub record Kept : Type 0 where
   pub taken : List ℕ
   pub plans : List ℕ
 
-abbrev pub kept_of : Core → Memory → Port → List ℕ → List ℕ → List ℕ → List ℕ → List ℕ → List ℕ → List ℕ → List ℕ → List ℕ → List ℕ → Kept
+abbrev pub kept_of : Core → Option HistoryReply → Port → List ℕ → List ℕ → List ℕ → List ℕ → List ℕ → List ℕ → List ℕ → List ℕ → List ℕ → List ℕ → Kept
 kept_of core memory port words results fixed block area counts dropped changed taken plans =
     record {
       core = core;
@@ -46,7 +46,7 @@ abbrev pub areas_of : List ℕ → List ℕ → List ℕ → List ℕ → List �
 areas_of words results fixed block changed samples plans =
     record { words = words; values = results; fixed = fixed; block = block; changed = changed; samples = samples; plans = plans }
 
-abbrev pub inner_of : Core → Areas → Memory → Files → List ℕ → Inner
+abbrev pub inner_of : Core → Areas → Option HistoryReply → Files → List ℕ → Inner
 inner_of core areas memory fs dropped = record { core = core; areas = areas; history = record { memory = memory; files = fs; dropped = dropped } }
 
 -- the records of the files and the samples of the means are those that stand in the lent characters, as a layout has them
@@ -98,7 +98,7 @@ abbrev pub owned_of : List ℕ → List ℕ → List ℕ → Owned
 owned_of unit block area = record { unit = unit; block = block; area = area }
 
 -- the unit that it means
-abbrev pub kept_by : Core → Memory → Port → Unit → List ℕ → List ℕ → Kept
+abbrev pub kept_by : Core → Option HistoryReply → Port → Unit → List ℕ → List ℕ → Kept
 kept_by core memory port x block area = kept_of core memory port x.words x.values x.fixed block area x.counts x.dropped x.changed x.taken x.plans
 
 abbrev pub kept_in : Owned → Kept

@@ -1,12 +1,10 @@
 -- What a unit keeps besides lent areas and records, as 26 plain numbers: written, and read whatever they are.
-use Rattle.std.specs.Prelude.{◌≡◌, ℕ, ◌%◌, Bool, true, false, cond, ◌&&◌, List, [], ◌∷◌, ◌==◌, slice_index, slice_set}
+use Rattle.std.specs.Prelude.{◌≡◌, ℕ, ◌%◌, Bool, true, false, cond, ◌&&◌, List, [], ◌∷◌, ◌==◌, slice_index, slice_set, None, Option, Some}
 use Rattle.model.specs.Port.{mark_number}
 use Rattle.model.specs.declared.Hold.{Hold}
 use Rattle.model.specs.declared.Hold.TheVariants.{Free, Held, TimedOut}
-use Rattle.model.specs.declared.Pending.{Pending}
-use Rattle.model.specs.declared.Pending.TheVariants.{NoWrite, Waits}
-use Rattle.model.specs.declared.Memory.{Memory}
-use Rattle.model.specs.declared.Memory.TheVariants.{Nothing, Remembered}
+use Rattle.model.specs.declared.Write.{Write}
+use Rattle.model.specs.declared.HistoryReply.{HistoryReply}
 use Rattle.model.specs.declared.Mark.{Mark}
 use Rattle.model.specs.declared.Mark.TheVariants.{Fine, Silent, Damaged}
 use Rattle.model.specs.declared.Clock.{Clock}
@@ -26,17 +24,17 @@ hold_numbers Free = record { hold = 0; master = 0; output = 0; close = 0; age = 
 hold_numbers (Held s) = record { hold = 1; master = s.master.0; output = s.output.0; close = bit_of s.close; age = s.age }
 hold_numbers (TimedOut m) = record { hold = 2; master = m.0; output = 0; close = 0; age = 0 }
 
-unfoldable pub write_numbers : Pending → WriteNumbers
-write_numbers NoWrite = record { write = 0; master = 0; bias = 0; ordinal = 0; age = 0 }
-write_numbers (Waits w) = record { write = 1; master = w.master.0; bias = w.bias; ordinal = w.ordinal.0; age = w.age }
+unfoldable pub write_numbers : Option Write → WriteNumbers
+write_numbers None = record { write = 0; master = 0; bias = 0; ordinal = 0; age = 0 }
+write_numbers (Some w) = record { write = 1; master = w.master.0; bias = w.bias; ordinal = w.ordinal.0; age = w.age }
 
-unfoldable pub memory_numbers : Memory → MemoryNumbers
-memory_numbers Nothing = record { memory = 0; master = 0; file = 0; dump = 0; quantity = 0; more = 0 }
-memory_numbers (Remembered t) =
+unfoldable pub memory_numbers : Option HistoryReply → MemoryNumbers
+memory_numbers None = record { memory = 0; master = 0; file = 0; dump = 0; quantity = 0; more = 0 }
+memory_numbers (Some t) =
     record { memory = 1; master = t.master.0; file = t.file.0; dump = bit_of t.dump; quantity = t.quantity; more = bit_of t.more }
 
 -- the 26 numbers, in the order of include/osturdam.h
-unfoldable pub numbers_of : Core → Memory → Port → List ℕ
+unfoldable pub numbers_of : Core → Option HistoryReply → Port → List ℕ
 numbers_of k m p =
     k.clock.day ∷ k.clock.hour ∷ k.clock.minute ∷ k.clock.second ∷ k.clock.ms
     ∷ (hold_numbers k.hold).hold ∷ (hold_numbers k.hold).master ∷ (hold_numbers k.hold).output ∷ (hold_numbers k.hold).close ∷ (hold_numbers k.hold).age
@@ -94,15 +92,15 @@ hold_in n =
     (Held (record { master = record { 0 = n.master % 256 }; output = record { 0 = n.output % 256 }; close = (n.close == 1); age = n.age }))
     (TimedOut (record { 0 = n.master % 256 })))
 
-unfoldable pub write_in : WriteNumbers → Pending
+unfoldable pub write_in : WriteNumbers → Option Write
 write_in n =
-    cond (n.write == 0) NoWrite
-    (Waits (record { master = record { 0 = n.master % 256 }; bias = n.bias; ordinal = record { 0 = n.ordinal % 256 }; age = n.age }))
+    cond (n.write == 0) None
+    (Some (record { master = record { 0 = n.master % 256 }; bias = n.bias; ordinal = record { 0 = n.ordinal % 256 }; age = n.age }))
 
-unfoldable pub reply_in : MemoryNumbers → Memory
+unfoldable pub reply_in : MemoryNumbers → Option HistoryReply
 reply_in n =
-    cond (n.memory == 0) Nothing
-    (Remembered (record {
+    cond (n.memory == 0) None
+    (Some (record {
       master = record { 0 = n.master % 256 };
       file = record { 0 = n.file % 256 };
       dump = (n.dump == 1);
@@ -137,7 +135,7 @@ core_in ks =
       broadcast = (slice_index ks 17 == 1);
     }
 
-unfoldable pub memory_in : List ℕ → Memory
+unfoldable pub memory_in : List ℕ → Option HistoryReply
 memory_in ks = reply_in (memory_at ks)
 
 -- the mark's number, whatever it is
@@ -160,12 +158,12 @@ unfoldable pub readable : List ℕ → Bool
 readable ks = same (numbers_of (core_in ks) (memory_in ks) (port_in ks)) ks
 
 -- numbers that mean this core, memory and port
-pub record Means (ks : List ℕ) (k : Core) (m : Memory) (p : Port) : Type 0 where
+pub record Means (ks : List ℕ) (k : Core) (m : Option HistoryReply) (p : Port) : Type 0 where
   pub core : core_in ks ≡ k
   pub memory : memory_in ks ≡ m
   pub port : port_in ks ≡ p
 
 -- what is written: the numbers, and that they mean what was written
-pub record Written (k : Core) (m : Memory) (p : Port) (ks : List ℕ) : Type 0 where
+pub record Written (k : Core) (m : Option HistoryReply) (p : Port) (ks : List ℕ) : Type 0 where
   pub plain : ks ≡ numbers_of k m p
   pub means : Means ks k m p

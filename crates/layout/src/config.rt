@@ -17,7 +17,7 @@ pub fn name_unit(config: &mut [u8; CONFIG], number: u16)
 pub fn equip_input(config: &mut [u8; CONFIG], number: Input)
     ensures { config.new ≡ equip_input config.old number.0 }
 {
-    let n = number.0 as usize;
+    let n = usize::from(number.0);
     config[TABLE + n] = 1;
 }
 

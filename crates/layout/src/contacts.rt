@@ -4,24 +4,21 @@ ghost use Rattle.layout.specs.Unit.{unit_in, put_changed};
 ghost use Rattle.chars.specs.Gather.{up_from, every};
 ghost use Rattle.layout.specs.Contacts.{markless, changeless, all_told};
 
-use super::{CHANGED, UNIT, WORDS};
+use super::table::{char_in, none_in};
+use super::{CHANGED, TAKEN, UNIT, WORDS};
 use model::Input;
 
 // A number that is no group's has no contact.
 pub fn changed_of(unit: &[u8; UNIT], group: Input) -> u8
     ensures { result ≡ slice_index (unit_in unit.now).changed group.0 }
 {
-    let g = group.0 as usize;
-    if g < 32 {
-        return unit[CHANGED + g];
-    }
-    0
+    char_in(&unit[CHANGED..TAKEN], usize::from(group.0))
 }
 
 pub fn put_changed(unit: &mut [u8; UNIT], group: Input, changed: u8)
     ensures { unit.new ≡ put_changed unit.old group.0 changed }
 {
-    let g = group.0 as usize;
+    let g = usize::from(group.0);
     if g < 32 {
         unit[CHANGED + g] = changed;
     }
@@ -34,7 +31,7 @@ fn no_mark<'a>(unit: &'a [u8; UNIT]) -> bool
 {
     let mut joined = 0;
     for group in 0..32 {
-        joined = joined | chars::word_at(unit, WORDS + 2 * group);
+        joined |= chars::word_at(unit, WORDS + 2 * group);
     }
     joined < 256
 }
@@ -42,11 +39,7 @@ fn no_mark<'a>(unit: &'a [u8; UNIT]) -> bool
 fn no_change<'a>(unit: &'a [u8; UNIT]) -> bool
     ensures { result ≡ every (changeless (unit_in unit.now).changed) (up_from 0 32) }
 {
-    let mut joined = 0;
-    for group in 0..32 {
-        joined = joined | unit[CHANGED + group];
-    }
-    joined == 0
+    none_in(unit, CHANGED, 32)
 }
 
 pub fn all_told<'a>(unit: &'a [u8; UNIT]) -> bool

@@ -27,25 +27,14 @@ pub fn core_in<'a>(unit: &'a [u8; UNIT]) -> Core
     }
 }
 
-// Part by part to where its numbers lie, by plain values: an array or a struct made first would be put together and copied.
+// Part by part to where its numbers lie.
 pub fn keep_core(unit: &mut [u8; UNIT], core: Core)
     ensures { Renumbered unit.old unit.new (put_core core (unit_in unit.old).numbers)
         × (core_in (unit_in unit.new).numbers ≡ core) }
 {
-    chars::told_long(unit);
-    let clock = core.clock;
-    keep_clock(
-        unit,
-        clock.day,
-        clock.hour,
-        clock.minute,
-        clock.second,
-        clock.ms,
-    );
-    let hold = core.hold;
-    keep_hold(unit, hold);
-    let write = core.write;
-    keep_write(unit, write);
+    keep_clock(unit, core.clock);
+    keep_hold(unit, core.hold);
+    keep_write(unit, core.write);
     keep_configure(unit, core.configure);
     keep_error(unit, core.error);
     keep_broadcast(unit, core.broadcast);
@@ -55,5 +44,8 @@ pub fn core_judged<'a>(unit: &'a [u8; UNIT]) -> bool
     ensures { result ≡ core_judged (config_in unit.now) (unit_in unit.now).numbers }
 {
     clock_judged(unit)
-        && (hold_judged(unit) && (write_judged(unit) && (bits_stand(unit) && port_judged(unit))))
+        && hold_judged(unit)
+        && write_judged(unit)
+        && bits_stand(unit)
+        && port_judged(unit)
 }

@@ -18,7 +18,6 @@ use super::{CURRENT, UNIT};
 pub fn fits<'a>(unit: &'a [u8; UNIT], lent: usize, room: usize) -> bool
     ensures { result ≡ fits_in unit.now lent room }
 {
-    chars::told_long(unit);
     layout_of(unit) == CURRENT
         && (core_judged(unit)
             && (config_judged(unit, lent)

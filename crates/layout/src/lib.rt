@@ -17,6 +17,7 @@ mod port;
 mod records;
 mod select;
 mod status;
+mod table;
 mod write;
 
 ghost use Rattle.std.specs.Prelude.{◌≡◌};

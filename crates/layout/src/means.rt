@@ -1,8 +1,9 @@
 // The means: the sixteen places of the configuration, how many samples of each are in, where these stand behind the records, and what of
 // all that is in range.
-ghost use Rattle.std.specs.Prelude.{◌≡◌, ◌+◌, ◌*◌, ◌<◌, ◌≤◌, true, ◌&&◌, length, ◌==◌, nat_eq, nat_le, slice_index};
+ghost use Rattle.std.specs.Prelude.{◌≡◌, ◌+◌, ◌*◌, ◌<◌, ◌≤◌, true, ◌&&◌, length, ◌==◌, nat_eq, nat_le, slice_index, Some, None, if◌then◌else◌};
+ghost use Rattle.std.specs.Option.{IfSome};
 ghost use Rattle.chars.specs.Gather.{up_from, every};
-ghost use Rattle.model.specs.Config.{file_valid, has_analog, number_at, analog_at, window_at, names, place_of, is_power, mean_valid};
+ghost use Rattle.model.specs.Config.{file_valid, has_analog, number_at, analog_at, window_at, names, place_of, is_mean, is_power, mean_valid};
 ghost use Rattle.model.specs.Means.{struck_at, struck_to, equipped_now};
 ghost use Rattle.model.specs.Fits.{samples_fit};
 ghost use Rattle.layout.specs.Unit.{unit_in, config_in, put_taken};
@@ -11,6 +12,7 @@ ghost use Rattle.layout.specs.Judged.{samples_by, means_judged};
 
 use super::equipment::{has_calculation, has_input};
 use super::records::{has_room, records_room, windows_to};
+use super::table::char_in;
 use super::{CALCULATIONS, MEANS, SAMPLED, TAKEN, UNIT, WINDOWS};
 use model::{Input, SpecialCalculation};
 
@@ -20,19 +22,13 @@ use model::{Input, SpecialCalculation};
 fn number_at(unit: &[u8; UNIT], place: usize) -> u8
     ensures { result ≡ number_at (config_in unit.now) place }
 {
-    if place < SpecialCalculation::MEANS {
-        return unit[MEANS + place];
-    }
-    0
+    char_in(&unit[MEANS..SAMPLED], place)
 }
 
 pub fn analog_of(unit: &[u8; UNIT], place: usize) -> Input
     ensures { result ≡ record { 0 = analog_at (config_in unit.now) place } }
 {
-    if place < SpecialCalculation::MEANS {
-        return Input(unit[SAMPLED + place]);
-    }
-    Input(0)
+    Input(char_in(&unit[SAMPLED..WINDOWS], place))
 }
 
 // Over how many samples the mean of a place is.
@@ -52,18 +48,12 @@ fn is_for(unit: &[u8; UNIT], place: usize, number: u8) -> bool
     window_of(unit, place) != 0 && number_at(unit, place) == number
 }
 
-// The place of a number; one past the last for a number that is no mean.
-pub fn place_of(unit: &[u8; UNIT], number: SpecialCalculation) -> usize
-    ensures { (result ≡ place_of (config_in unit.now) number.0) × (result ≤ 16) }
+// The place of a number; none for a number that is no mean.
+pub fn place_of(unit: &[u8; UNIT], number: SpecialCalculation) -> Option<usize>
+    ensures value { result ≡ (if is_mean (config_in unit.now) number.0 then Some (place_of (config_in unit.now) number.0) else None) }
+    ensures bound { IfSome result (λ place. place < 16) }
 {
-    let mut place = 0;
-    while place < SpecialCalculation::MEANS {
-        if is_for(unit, place, number.0) {
-            return place;
-        }
-        place += 1;
-    }
-    place
+    (0..SpecialCalculation::MEANS).find(|place| is_for(unit, *place, number.0))
 }
 
 // ---- the samples
@@ -104,7 +94,7 @@ fn strike<'a>(unit: &'a [u8; UNIT], place: usize, table: &mut [u8])
     if window_of(unit, place) <= taken_of(unit, place) {
         return;
     }
-    let n = chars::wide(number_at(unit, place));
+    let n = usize::from(number_at(unit, place));
     if n < 128 {
         table[n] = 0;
     }
@@ -124,7 +114,7 @@ pub fn equipped_now<'a>(unit: &'a [u8; UNIT], table: &mut [u8; 128])
     ensures { table.new ≡ equipped_now (config_in unit.now) (samples_by (unit_in unit.now).taken) }
 {
     chars::copy(unit, CALCULATIONS, 128, table, 0);
-    if no_means(unit) {} else {
+    if !no_means(unit) {
         strike_all(unit, table);
     }
 }
@@ -135,37 +125,25 @@ pub fn equipped_now<'a>(unit: &'a [u8; UNIT], table: &mut [u8; 128])
 fn is_power(n: u16) -> bool
     ensures { result ≡ is_power n }
 {
-    if n == 0 {
-        return false;
-    }
-    if SpecialCalculation::SAMPLES < n {
-        return false;
-    }
-    n & (n - 1) == 0
+    n != 0 && (n <= SpecialCalculation::SAMPLES && n & (n - 1) == 0)
 }
 
 fn has_analog(unit: &[u8; UNIT], number: Input) -> bool
     ensures { result ≡ has_analog (config_in unit.now).inputs number.0 }
 {
-    if 0x80 <= number.0 {
-        has_input(unit, number)
-    } else {
-        false
-    }
+    0x80 <= number.0 && has_input(unit, number)
 }
 
 fn mean_valid(unit: &[u8; UNIT], place: usize) -> bool
     ensures { result ≡ mean_valid (config_in unit.now) place }
 {
     let window = window_of(unit, place);
-    if window == 0 {
-        return true;
-    }
-    let number = number_at(unit, place);
-    is_power(window)
-        && (has_calculation(unit, SpecialCalculation(number))
-            && (has_analog(unit, analog_of(unit, place))
-                && place_of(unit, SpecialCalculation(number)) == place))
+    let number = SpecialCalculation(number_at(unit, place));
+    window == 0
+        || (is_power(window)
+            && has_calculation(unit, number)
+            && has_analog(unit, analog_of(unit, place))
+            && place_of(unit, number) == Some(place))
 }
 
 fn place_judged(unit: &[u8; UNIT], place: usize) -> bool
@@ -178,15 +156,7 @@ fn place_judged(unit: &[u8; UNIT], place: usize) -> bool
 fn places_judged(unit: &[u8; UNIT]) -> bool
     ensures { result ≡ means_judged (config_in unit.now) (unit_in unit.now).taken }
 {
-    let mut place = 0;
-    while place < SpecialCalculation::MEANS {
-        if place_judged(unit, place) {
-            place += 1;
-        } else {
-            return false;
-        }
-    }
-    true
+    (0..SpecialCalculation::MEANS).all(|place| place_judged(unit, place))
 }
 
 // 0 for a place that is not used and has no sample.
@@ -203,7 +173,7 @@ fn no_means(unit: &[u8; UNIT]) -> bool
 {
     let mut any = 0;
     for place in 0..SpecialCalculation::MEANS {
-        any = any | asked_at(unit, place);
+        any |= asked_at(unit, place);
     }
     any == 0
 }

@@ -3,30 +3,23 @@ ghost use Rattle.std.specs.Prelude.{◌≡◌};
 ghost use Rattle.model.specs.Plans.{planned, plans_fit};
 ghost use Rattle.layout.specs.Unit.{unit_in, put_plans_at};
 
+use super::table::put_chars;
 use super::{PLANS, UNIT};
 
-// How many plans there are, and how many characters they have in all.
+// How many plans there are.
 const EACH: usize = 16;
-
-const ALL: usize = UNIT - PLANS;
 
 pub fn plans_of<'a>(unit: &'a [u8; UNIT]) -> &'a [u8]
     ensures { result.now ≡ (unit_in unit.now).plans }
 {
-    let memory = &unit[..];
-    &memory[PLANS..UNIT]
+    &unit[PLANS..UNIT]
 }
 
 // Characters that do not lie in the plans are not written.
 pub fn put_plans(unit: &mut [u8; UNIT], at: usize, chars: &[u8])
     ensures { unit.new ≡ put_plans_at unit.old at chars.now }
 {
-    let n = chars.len();
-    if at <= ALL {
-        if n <= ALL - at {
-            chars::copy(chars, 0, n, unit, PLANS + at);
-        }
-    }
+    put_chars(unit, PLANS, UNIT, at, chars);
 }
 
 // ---- judged, with no branch, so that the loop is a few instructions on all sixteen
@@ -42,7 +35,7 @@ pub fn plans_judged<'a>(unit: &'a [u8; UNIT]) -> bool
 {
     let mut all = true;
     for k in 0..EACH {
-        all = all & is_planned(unit[PLANS + k]);
+        all &= is_planned(unit[PLANS + k]);
     }
     all
 }

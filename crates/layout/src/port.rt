@@ -6,7 +6,7 @@ ghost use Rattle.layout.specs.Numbers.{mark_in, mark_at, port_in, put_port};
 ghost use Rattle.layout.specs.Judged.{port_judged};
 
 use super::UNIT;
-use super::numbers::{kept_of, put_kept};
+use super::numbers::{MARK, SILENCE, kept_of, put_kept};
 use model::{Mark, Port};
 
 fn mark_in(x: u16) -> Mark
@@ -23,39 +23,33 @@ fn mark_in(x: u16) -> Mark
 pub fn mark_at<'a>(unit: &'a [u8; UNIT]) -> u16
     ensures { result ≡ mark_at (unit_in unit.now).numbers }
 {
-    let number = kept_of(unit, 25);
-    number
+    kept_of(unit, MARK)
 }
 
 pub fn port_in<'a>(unit: &'a [u8; UNIT]) -> Port
     ensures { result ≡ port_in (unit_in unit.now).numbers }
 {
     Port {
-        silence: kept_of(unit, 24),
-        mark: mark_in(kept_of(unit, 25)),
+        silence: kept_of(unit, SILENCE),
+        mark: mark_in(kept_of(unit, MARK)),
     }
 }
 
 fn mark_number(mark: Mark) -> u16
     ensures { result ≡ mark_number mark }
 {
-    match mark {
-        Mark::Fine => 0,
-        Mark::Silent => 1,
-        Mark::Damaged => 2,
-    }
+    mark as u16
 }
 
 pub fn keep_port(unit: &mut [u8; UNIT], port: Port)
     ensures { Renumbered unit.old unit.new (put_port port (unit_in unit.old).numbers) }
 {
-    let mark = port.mark;
-    put_kept(unit, 24, port.silence);
-    put_kept(unit, 25, mark_number(mark));
+    put_kept(unit, SILENCE, port.silence);
+    put_kept(unit, MARK, mark_number(port.mark));
 }
 
 pub fn port_judged<'a>(unit: &'a [u8; UNIT]) -> bool
     ensures { result ≡ port_judged (unit_in unit.now).numbers }
 {
-    (kept_of(unit, 25) < 3) & (kept_of(unit, 24) <= Port::SILENT)
+    (kept_of(unit, MARK) < 3) & (kept_of(unit, SILENCE) <= Port::SILENT)
 }

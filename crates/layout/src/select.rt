@@ -1,14 +1,15 @@
 // The select: a tag first, 0 none, 1 one is held, 2 a master's has timed out, and 0 in each place that its case does not use.
 ghost use Rattle.std.specs.Prelude.{◌≡◌};
 ghost use Rattle.model.specs.Fits.{master_fits, hold_fits};
-ghost use Rattle.model.specs.declared.Hold.TheVariants.{Held};
 ghost use Rattle.layout.specs.Unit.{unit_in, config_in, Renumbered};
 ghost use Rattle.layout.specs.Numbers.{hold_numbers, hold_places, put_hold, hold_in, hold_at, same};
 ghost use Rattle.layout.specs.Judged.{hold_judged};
 
 use super::UNIT;
 use super::equipment::has_output;
-use super::numbers::{as_number, bit, kept_of, low, put_kept, zeros};
+use super::numbers::{
+    HOLD, HOLD_AGE, HOLD_CLOSE, HOLD_MASTER, HOLD_OUTPUT, kept_of, low, put_kept, zeros,
+};
 use model::{ControlOutput, Hold, Master, Select};
 
 #[derive(Clone, Copy)]
@@ -25,8 +26,7 @@ pub struct HoldNumbers {
 fn hold_in(n: HoldNumbers) -> Hold
     ensures { result ≡ hold_in n }
 {
-    let tag = n.hold;
-    match tag {
+    match n.hold {
         0 => Hold::Free,
         1 => Hold::Held(Select {
             master: Master(low(n.master)),
@@ -42,11 +42,11 @@ fn hold_at<'a>(unit: &'a [u8; UNIT]) -> HoldNumbers
     ensures { result ≡ hold_at (unit_in unit.now).numbers }
 {
     HoldNumbers {
-        hold: kept_of(unit, 5),
-        master: kept_of(unit, 6),
-        output: kept_of(unit, 7),
-        close: kept_of(unit, 8),
-        age: kept_of(unit, 9),
+        hold: kept_of(unit, HOLD),
+        master: kept_of(unit, HOLD_MASTER),
+        output: kept_of(unit, HOLD_OUTPUT),
+        close: kept_of(unit, HOLD_CLOSE),
+        age: kept_of(unit, HOLD_AGE),
     }
 }
 
@@ -58,33 +58,49 @@ pub fn hold_kept<'a>(unit: &'a [u8; UNIT]) -> Hold
 
 // ---- written
 
-fn put_hold(unit: &mut [u8; UNIT], hold: u16, master: u16, output: u16, close: u16, age: u16)
-    ensures { Renumbered unit.old unit.new
-        (put_hold (record { hold = hold; master = master; output = output; close = close; age = age }) (unit_in unit.old).numbers) }
+fn hold_numbers(hold: Hold) -> HoldNumbers
+    ensures { (result ≡ hold_numbers hold) × (hold_in result ≡ hold) }
 {
-    put_kept(unit, 5, hold);
-    put_kept(unit, 6, master);
-    put_kept(unit, 7, output);
-    put_kept(unit, 8, close);
-    put_kept(unit, 9, age);
+    match hold {
+        Hold::Free => HoldNumbers {
+            hold: 0,
+            master: 0,
+            output: 0,
+            close: 0,
+            age: 0,
+        },
+        Hold::Held(select) => HoldNumbers {
+            hold: 1,
+            master: u16::from(select.master.0),
+            output: u16::from(select.output.0),
+            close: u16::from(select.close),
+            age: select.age,
+        },
+        Hold::TimedOut(master) => HoldNumbers {
+            hold: 2,
+            master: u16::from(master.0),
+            output: 0,
+            close: 0,
+            age: 0,
+        },
+    }
+}
+
+fn put_hold(unit: &mut [u8; UNIT], n: HoldNumbers)
+    ensures { Renumbered unit.old unit.new (put_hold n (unit_in unit.old).numbers) }
+{
+    put_kept(unit, HOLD, n.hold);
+    put_kept(unit, HOLD_MASTER, n.master);
+    put_kept(unit, HOLD_OUTPUT, n.output);
+    put_kept(unit, HOLD_CLOSE, n.close);
+    put_kept(unit, HOLD_AGE, n.age);
 }
 
 pub fn keep_hold(unit: &mut [u8; UNIT], hold: Hold)
     ensures { Renumbered unit.old unit.new (put_hold (hold_numbers hold) (unit_in unit.old).numbers)
         × (hold_in (hold_numbers hold) ≡ hold) }
 {
-    match hold {
-        Hold::Free => put_hold(unit, 0, 0, 0, 0, 0),
-        Hold::Held(select) => put_hold(
-            unit,
-            1,
-            as_number(select.master.0),
-            as_number(select.output.0),
-            bit(select.close),
-            select.age,
-        ),
-        Hold::TimedOut(master) => put_hold(unit, 2, as_number(master.0), 0, 0, 0),
-    }
+    put_hold(unit, hold_numbers(hold));
 }
 
 // ---- judged
@@ -95,20 +111,16 @@ pub fn master_fits(master: Master) -> bool
     master.0 <= 31
 }
 
-fn select_fits<'a>(unit: &'a [u8; UNIT], select: Select) -> bool
-    ensures { result ≡ hold_fits (config_in unit.now) (Held select) }
-{
-    let master = select.master;
-    let output = select.output;
-    master_fits(master) && (has_output(unit, output) && select.age <= Select::HOLD)
-}
-
 fn hold_fits<'a>(unit: &'a [u8; UNIT], hold: Hold) -> bool
     ensures { result ≡ hold_fits (config_in unit.now) hold }
 {
     match hold {
         Hold::Free => true,
-        Hold::Held(select) => select_fits(unit, select),
+        Hold::Held(select) => {
+            master_fits(select.master)
+                && has_output(unit, select.output)
+                && select.age <= Select::HOLD
+        }
         Hold::TimedOut(master) => master_fits(master),
     }
 }
@@ -117,15 +129,17 @@ fn hold_stands<'a>(unit: &'a [u8; UNIT]) -> bool
     ensures { result ≡ same (hold_places (hold_numbers (hold_in (hold_at (unit_in unit.now).numbers))))
         (hold_places (hold_at (unit_in unit.now).numbers)) }
 {
-    let tag = kept_of(unit, 5);
+    let tag = kept_of(unit, HOLD);
     match tag {
-        0 => zeros(unit, 6),
-        1 => (kept_of(unit, 6) < 256) & (kept_of(unit, 7) < 256) & (kept_of(unit, 8) < 2),
+        0 => zeros(unit, HOLD_MASTER),
+        1 => (kept_of(unit, HOLD_MASTER) < 256)
+            & (kept_of(unit, HOLD_OUTPUT) < 256)
+            & (kept_of(unit, HOLD_CLOSE) < 2),
         2 => {
-            (kept_of(unit, 6) < 256)
-                & (kept_of(unit, 7) == 0)
-                & (kept_of(unit, 8) == 0)
-                & (kept_of(unit, 9) == 0)
+            (kept_of(unit, HOLD_MASTER) < 256)
+                & (kept_of(unit, HOLD_OUTPUT) == 0)
+                & (kept_of(unit, HOLD_CLOSE) == 0)
+                & (kept_of(unit, HOLD_AGE) == 0)
         }
         _ => false,
     }

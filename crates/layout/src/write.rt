@@ -1,15 +1,16 @@
 // The write: a tag first, 0 none, 1 one waits, and 0 in each place that its case does not use.
 ghost use Rattle.std.specs.Prelude.{◌≡◌};
 ghost use Rattle.model.specs.Fits.{write_fits};
-ghost use Rattle.model.specs.declared.Pending.TheVariants.{Waits};
 ghost use Rattle.layout.specs.Unit.{unit_in, Renumbered};
 ghost use Rattle.layout.specs.Numbers.{write_numbers, write_places, put_write, write_in, write_at, same};
 ghost use Rattle.layout.specs.Judged.{write_judged};
 
 use super::UNIT;
-use super::numbers::{as_number, kept_of, low, put_kept, zeros};
+use super::numbers::{
+    WRITE, WRITE_AGE, WRITE_BIAS, WRITE_MASTER, WRITE_ORDINAL, kept_of, low, put_kept, zeros,
+};
 use super::select::master_fits;
-use model::{Master, Ordinal, Pending, Select, Write};
+use model::{Master, Ordinal, Select, Write};
 
 #[derive(Clone, Copy)]
 pub struct WriteNumbers {
@@ -22,13 +23,12 @@ pub struct WriteNumbers {
 
 // ---- read
 
-fn write_in(n: WriteNumbers) -> Pending
+fn write_in(n: WriteNumbers) -> Option<Write>
     ensures { result ≡ write_in n }
 {
-    let tag = n.write;
-    match tag {
-        0 => Pending::NoWrite,
-        _ => Pending::Waits(Write {
+    match n.write {
+        0 => None,
+        _ => Some(Write {
             master: Master(low(n.master)),
             bias: n.bias,
             ordinal: Ordinal(low(n.ordinal)),
@@ -41,15 +41,15 @@ fn write_at<'a>(unit: &'a [u8; UNIT]) -> WriteNumbers
     ensures { result ≡ write_at (unit_in unit.now).numbers }
 {
     WriteNumbers {
-        write: kept_of(unit, 10),
-        master: kept_of(unit, 11),
-        bias: kept_of(unit, 12),
-        ordinal: kept_of(unit, 13),
-        age: kept_of(unit, 14),
+        write: kept_of(unit, WRITE),
+        master: kept_of(unit, WRITE_MASTER),
+        bias: kept_of(unit, WRITE_BIAS),
+        ordinal: kept_of(unit, WRITE_ORDINAL),
+        age: kept_of(unit, WRITE_AGE),
     }
 }
 
-pub fn write_kept<'a>(unit: &'a [u8; UNIT]) -> Pending
+pub fn write_kept<'a>(unit: &'a [u8; UNIT]) -> Option<Write>
     ensures { result ≡ write_in (write_at (unit_in unit.now).numbers) }
 {
     write_in(write_at(unit))
@@ -57,49 +57,52 @@ pub fn write_kept<'a>(unit: &'a [u8; UNIT]) -> Pending
 
 // ---- written
 
-fn put_write(unit: &mut [u8; UNIT], write: u16, master: u16, bias: u16, ordinal: u16, age: u16)
-    ensures { Renumbered unit.old unit.new
-        (put_write (record { write = write; master = master; bias = bias; ordinal = ordinal; age = age }) (unit_in unit.old).numbers) }
+fn write_numbers(write: Option<Write>) -> WriteNumbers
+    ensures { (result ≡ write_numbers write) × (write_in result ≡ write) }
 {
-    put_kept(unit, 10, write);
-    put_kept(unit, 11, master);
-    put_kept(unit, 12, bias);
-    put_kept(unit, 13, ordinal);
-    put_kept(unit, 14, age);
+    match write {
+        None => WriteNumbers {
+            write: 0,
+            master: 0,
+            bias: 0,
+            ordinal: 0,
+            age: 0,
+        },
+        Some(write) => WriteNumbers {
+            write: 1,
+            master: u16::from(write.master.0),
+            bias: write.bias,
+            ordinal: u16::from(write.ordinal.0),
+            age: write.age,
+        },
+    }
 }
 
-pub fn keep_write(unit: &mut [u8; UNIT], write: Pending)
+fn put_write(unit: &mut [u8; UNIT], n: WriteNumbers)
+    ensures { Renumbered unit.old unit.new (put_write n (unit_in unit.old).numbers) }
+{
+    put_kept(unit, WRITE, n.write);
+    put_kept(unit, WRITE_MASTER, n.master);
+    put_kept(unit, WRITE_BIAS, n.bias);
+    put_kept(unit, WRITE_ORDINAL, n.ordinal);
+    put_kept(unit, WRITE_AGE, n.age);
+}
+
+pub fn keep_write(unit: &mut [u8; UNIT], write: Option<Write>)
     ensures { Renumbered unit.old unit.new (put_write (write_numbers write) (unit_in unit.old).numbers)
         × (write_in (write_numbers write) ≡ write) }
 {
-    match write {
-        Pending::NoWrite => put_write(unit, 0, 0, 0, 0, 0),
-        Pending::Waits(write) => put_write(
-            unit,
-            1,
-            as_number(write.master.0),
-            write.bias,
-            as_number(write.ordinal.0),
-            write.age,
-        ),
-    }
+    put_write(unit, write_numbers(write));
 }
 
 // ---- judged
 
-fn waiting_fits(write: Write) -> bool
-    ensures { result ≡ write_fits (Waits write) }
-{
-    let master = write.master;
-    master_fits(master) && write.age <= Select::HOLD
-}
-
-fn pending_fits(pending: Pending) -> bool
+fn pending_fits(pending: Option<Write>) -> bool
     ensures { result ≡ write_fits pending }
 {
     match pending {
-        Pending::NoWrite => true,
-        Pending::Waits(write) => waiting_fits(write),
+        None => true,
+        Some(write) => master_fits(write.master) && write.age <= Select::HOLD,
     }
 }
 
@@ -107,10 +110,10 @@ fn write_stands<'a>(unit: &'a [u8; UNIT]) -> bool
     ensures { result ≡ same (write_places (write_numbers (write_in (write_at (unit_in unit.now).numbers))))
         (write_places (write_at (unit_in unit.now).numbers)) }
 {
-    let tag = kept_of(unit, 10);
+    let tag = kept_of(unit, WRITE);
     match tag {
-        0 => zeros(unit, 11),
-        1 => (kept_of(unit, 11) < 256) & (kept_of(unit, 13) < 256),
+        0 => zeros(unit, WRITE_MASTER),
+        1 => (kept_of(unit, WRITE_MASTER) < 256) & (kept_of(unit, WRITE_ORDINAL) < 256),
         _ => false,
     }
 }

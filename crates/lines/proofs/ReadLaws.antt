@@ -8,13 +8,14 @@ use mathlib.Core.Bool.{Bool, true, false, cond}
 use lib.ListN.{length, take, drop, get_or, set, drop_of_length-le, length-drop}
 use lib.Seq.{drop-cons, take_all}
 use lib.Dec.{leb, eqb}
-use borrow.Author.Tests.{ltb-true, leb-true, lt-ltb, le-ltb, le-leb, lt-leb, eq-eqb, ne_eqb}
+use borrow.Author.Tests.{eqb-true, eqb-false, ltb-true, leb-true, le-leb, lt-leb, eq-eqb, ne_eqb}
+use Rattle.std.specs.Prelude.{Option, Some, None, MatchOption}
 use Rattle.chars.specs.Put.{put, part}
 use Rattle.chars.specs.Gather.{every}
 use Rattle.chars.proofs.PutLaws.{put-none, part-whole, copy_more, copy_clipped}
 use Rattle.lines.specs.Line.{Says, stretch, time, other, hex_val, is_hex, is_decimal, pairs, value_from, stretch_of, time_from, time_said, field_of, fields_of, says_of, stretch_in, line_of}
 use Rattle.lines.specs.declared.Line.{Line}
-use Rattle.lines.proofs.Tests.{by_test, cond_same, cond_and, every-step, every_at}
+use Rattle.lines.proofs.Tests.{by_test, cond_same, cond_and, every_at}
 
 -- ---- hex digits
 
@@ -22,16 +23,8 @@ pub hex_below : (b : ℕ) → is_hex b ≡ true → hex_val b < 16
 unfolding is_hex
 hex_below b e = ltb-true _ _ e
 
--- one more digit is judged
+-- a digit of a stretch is worth less than 16
 module _ (ds : List ℕ) (i r : ℕ) (h : i < length ds) (e : r ≡ hex_val (get_or ds i 0)) where
-  pub all_more : r < 16 → every is_hex (drop i ds) ≡ every is_hex (drop (i + 1) ds)
-  unfolding is_hex
-  all_more k = every-step is_hex ds i h ∙ rw (← e) (rw (lt-ltb r 16 k))
-
-  pub all_stop : 16 ≤ r → every is_hex (drop i ds) ≡ false
-  unfolding is_hex
-  all_stop k = every-step is_hex ds i h ∙ rw (← e) (rw (le-ltb r 16 k))
-
   pub hex_at : every is_hex ds ≡ true → r < 16
   hex_at a = omega (arith, hex_below (get_or ds i 0) (every_at is_hex ds i a h))
 
@@ -163,7 +156,7 @@ behind : (l : List ℕ) → drop 2 l ≡ take (length l - 2) (drop 2 l)
 behind l = sym (take_all (length l - 2) (drop 2 l) (omega (arith, length-drop 2 l)))
 
 module _ (l : List ℕ) (m : length l ≤ 2000) (n : 2 ≤ length l) where
-  pub line_no_tab : (get_or l 1 0 ≡ 9 → ⊥) → says_of l ≡ other
+  line_no_tab : (get_or l 1 0 ≡ 9 → ⊥) → says_of l ≡ other
   unfolding says_of
   line_no_tab t = simp (le-leb (length l) 2000 m, fields l n, ne_eqb (get_or l 1 0) 9 t)
 
@@ -179,9 +172,16 @@ module _ (l : List ℕ) (m : length l ≤ 2000) (n : 2 ≤ length l) where
   unfolding field_of
   line-time t j k = line_field t ∙ simp (ne_eqb (get_or l 0 0) 82 j, eq-eqb (get_or l 0 0) 84 k) (ap time_said (behind l))
 
-  pub line_unknown : get_or l 1 0 ≡ 9 → (get_or l 0 0 ≡ 82 → ⊥) → (get_or l 0 0 ≡ 84 → ⊥) → says_of l ≡ other
+  line_unknown : get_or l 1 0 ≡ 9 → (get_or l 0 0 ≡ 82 → ⊥) → (get_or l 0 0 ≡ 84 → ⊥) → says_of l ≡ other
   unfolding field_of
   line_unknown t j k = line_field t ∙ simp (ne_eqb (get_or l 0 0) 82 j, ne_eqb (get_or l 0 0) 84 k)
+
+  pub line-other : (get_or l 1 0 ≡ 9 → get_or l 0 0 ≡ 82 → ⊥) → (get_or l 1 0 ≡ 9 → get_or l 0 0 ≡ 84 → ⊥) → says_of l ≡ other
+  line-other j k =
+      by_test
+      (eqb (get_or l 1 0) 9)
+      (λ e. let t : get_or l 1 0 ≡ 9 = eqb-true _ _ e in line_unknown t (j t) (k t))
+      (λ e. line_no_tab (eqb-false _ _ e))
 
 -- ---- what is answered, and what stands in the lent memory
 
@@ -193,6 +193,12 @@ module _ (m : Says) where
   pub answer-time : (v : ℕ) → m ≡ time v → Line.Time v ≡ line_of m
   unfolding line_of
   answer-time v e = rw e
+
+-- of what was read in a field its kind is answered
+pub answered : (kind : ℕ → Line) (o : Option ℕ) (r a : Line) → MatchOption o (r ≡ Line.Other) (λ n. r ≡ kind n) → MatchOption o (Line.Other ≡ a) (λ n. kind n ≡ a)
+    → r ≡ a
+answered kind None r a e h = e ∙ h
+answered kind (Some n) r a e h = e ∙ h
 
 -- a line that says m was read: r is answered, and the lent memory, which was xs, is ys
 abbrev Read : Says → Line → List ℕ → List ℕ → Type 0

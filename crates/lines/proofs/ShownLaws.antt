@@ -11,9 +11,10 @@ use borrow.Author.Tests.{ltb-true, ltb-false, lt-ltb, le-ltb, le-leb, eq-eqb}
 use Rattle.chars.specs.Gather.{gather, every}
 use Rattle.chars.specs.Word.{Characters}
 use Rattle.lines.specs.Line.{stretch, time, hex_val, is_hex, is_decimal, pairs, value_from, stretch_of, time_from, time_said, field_of, fields_of, says_of, decimal_in, decimal, hex_digit, hex_of, reply_of, column_of, shown_of, other_line}
-use Rattle.lines.specs.Wrote.{Wrote}
+use Rattle.lines.specs.declared.Page.{Page}
+use Rattle.lines.specs.Wrote.{Adds}
 use Rattle.lines.proofs.Tests.{by_test, every_append, drop_set_at}
-use Rattle.lines.proofs.WroteLaws.{wrote_join}
+use Rattle.lines.proofs.WroteLaws.{adds_join}
 use Rattle.lines.proofs.ReadLaws.{time-some}
 
 -- ---- decimal
@@ -212,21 +213,18 @@ stretch-back cs h k =
 
 -- ---- the parts of what is printed, as they are written
 
-pub column_wrote : {r₀ r r' : List ℕ} {at to to' t : ℕ} (n : ℕ) → Wrote r₀ at (decimal n) r to → Wrote r to (t ∷ []) r' to' → t ≡ 9 → Wrote r₀ at (column_of n) r' to'
+pub column_added : {p q r : Page} (n : ℕ) → Adds p q (decimal n) → Adds q r (9 ∷ []) → Adds p r (column_of n)
 unfolding column_of
-column_wrote n w x e = wrote_join w (rw e at x)
+column_added n w x = adds_join w x
 
-module _ {r₀ r₁ r₂ r₃ r : List ℕ} {t₁ t₂ t₃ to e : ℕ} (n o : ℕ) (cs : List ℕ) where
-  pub shown_wrote : Wrote r₀ 0 (column_of n) r₁ t₁ → Wrote r₁ t₁ (column_of o) r₂ t₂ → Wrote r₂ t₂ (reply_of cs) r₃ t₃ → Wrote r₃ t₃ (e ∷ []) r to → e ≡ 10
-      → Wrote r₀ 0 (shown_of n o cs) r to
-  unfolding shown_of
-  shown_wrote u v w x p = wrote_join (wrote_join (wrote_join u v) w) (rw p at x)
+pub shown_added : {p q r s t : Page} (n o : ℕ) (cs : List ℕ) → Adds p q (column_of n) → Adds q r (column_of o) → Adds r s (reply_of cs) → Adds s t (10 ∷ [])
+    → Adds p t (shown_of n o cs)
+unfolding shown_of
+shown_added n o cs u v w x = adds_join (adds_join (adds_join u v) w) x
 
-module _ {r₀ r₁ r₂ r₃ r₄ r : List ℕ} {t₁ t₂ t₃ t₄ to a b c d : ℕ} (n : ℕ) where
-  pub other_wrote : Wrote r₀ 0 (column_of n) r₁ t₁ → Wrote r₁ t₁ (a ∷ []) r₂ t₂ → Wrote r₂ t₂ (b ∷ []) r₃ t₃ → Wrote r₃ t₃ (c ∷ []) r₄ t₄
-      → Wrote r₄ t₄ (d ∷ []) r to → a ≡ 45 → b ≡ 9 → c ≡ 45 → d ≡ 10 → Wrote r₀ 0 (other_line n) r to
-  unfolding other_line
-  other_wrote u v w x y p q r s = wrote_join u (wrote_join (rw p at v) (wrote_join (rw q at w) (wrote_join (rw r at x) (rw s at y))))
+pub other_added : {p q r : Page} (n : ℕ) → Adds p q (column_of n) → Adds q r (45 ∷ 9 ∷ 45 ∷ 10 ∷ []) → Adds p r (other_line n)
+unfolding other_line
+other_added n w x = adds_join w x
 
 -- ---- the room that they need
 

@@ -7,6 +7,7 @@ use mathlib.Core.List.{List, [], ◌∷◌, ◌++◌}
 use mathlib.Core.Bool.{Bool, true, false, cond, ◌&&◌}
 use lib.ListN.{length, drop, get_or, set, drop_of_length-le}
 use lib.Seq.{drop-cons}
+use Rattle.std.specs.List.{list_all}
 use Rattle.chars.specs.Gather.{every}
 
 pub by_test : {P : Type 0} (b : Bool) → (b ≡ true → P) → (b ≡ false → P) → P
@@ -33,6 +34,11 @@ every-step f s i h = rw (add-one, drop-cons s i 0)
 pub every_end : (f : ℕ → Bool) (s : List ℕ) (i : ℕ) → length s ≤ i → every f (drop i s) ≡ true
 unfolding every
 every_end f s i h = ap (every f) (drop_of_length-le s h)
+
+pub every-list_all : (f : ℕ → Bool) (s : List ℕ) → every f s ≡ list_all f s
+unfolding every
+every-list_all f [] = refl
+every-list_all f (x ∷ s) = ap (λ b. f x && b) (every-list_all f s)
 
 pub every_at : (f : ℕ → Bool) (s : List ℕ) (i : ℕ) → every f s ≡ true → i < length s → f (get_or s i 0) ≡ true
 unfolding every

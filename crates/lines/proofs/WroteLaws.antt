@@ -1,24 +1,22 @@
 -- Laws of Wrote: runs written one after the other are one run, wherever the room ends.
-use mathlib.Core.Path.{◌≡◌, sym, ap, ◌∙◌}
+use mathlib.Core.Path.{◌≡◌, refl, sym, ap, ◌∙◌}
 use Prim.Native.Nat.{ℕ, ◌+◌, ◌-◌, ◌≤◌, ◌<◌, min}
 use native.Mathlib.Omega.{arith}
 use mathlib.Core.List.{List, [], ◌++◌}
-use lib.ListN.{length, drop, get_or, length-append, length-drop}
-use lib.Seq.{take-append_seam, take_all}
+use lib.ListN.{length, get_or, length-append}
+use lib.Seq.{take-append_seam}
 use lib.Dec.{leb}
 use borrow.Author.Tests.{leb-true, leb-false}
 use Rattle.chars.specs.Put.{put, part}
 use Rattle.chars.specs.Gather.{gather}
 use Rattle.chars.proofs.PutLaws.{length-put, put-none, put_clipped, put-take, put_then, part_none, part-whole, front_more}
 use Rattle.chars.proofs.GatherLaws.{gather-more}
-use Rattle.lines.specs.Wrote.{Wrote}
+use Rattle.lines.specs.declared.Page.{Page}
+use Rattle.lines.specs.Wrote.{Wrote, Adds}
 use Rattle.lines.proofs.Tests.{by_test}
 
 pub wrote_none : (r : List ℕ) (at : ℕ) → Wrote r at [] r at
 wrote_none r at = record { chars = sym (put-none r at); place = omega arith }
-
-pub wrote_as : {r₀ ys r zs : List ℕ} {at to : ℕ} → Wrote r₀ at ys r to → ys ≡ zs → Wrote r₀ at zs r to
-wrote_as w e = rw e at w
 
 -- a run that ends past the room: what follows it is left out
 past : (r₀ : List ℕ) (at : ℕ) (ys zs : List ℕ) → length r₀ - at ≤ length ys → put r₀ at ys ≡ put r₀ at (ys ++ zs)
@@ -51,15 +49,17 @@ module _ {r₀ ys r : List ℕ} {at to : ℕ} (w : Wrote r₀ at ys r to) where
 pub wrote_all : {r₀ ys r : List ℕ} {to : ℕ} → Wrote r₀ 0 ys r to → (r ≡ put r₀ 0 ys) × (to ≡ min (length ys) (length r₀))
 wrote_all w = (w.chars, omega (arith, w.place))
 
--- the rest of a run, as a copy writes it
-pub wrote_rest : (r₀ : List ℕ) (at : ℕ) (run : List ℕ) (from n : ℕ) (r : List ℕ) (to : ℕ) → r ≡ put r₀ at (part run from n) → n ≡ length run - from
-    → to ≡ at + min n (length r₀ - at) → Wrote r₀ at (drop from run) r to
-unfolding part
-wrote_rest r₀ at run from n r to w e t =
-    record {
-      chars = w ∙ ap (put r₀ at) (take_all n (drop from run) (omega (arith, length-drop from run)));
-      place = omega (arith, length-drop from run);
-    }
+-- ---- pages
+
+pub adds_none : (p : Page) → Adds p p []
+adds_none p = record { same = refl; wrote = wrote_none p.out.now p.at }
+
+pub adds_as : {p q : Page} {ys zs : List ℕ} → Adds p q ys → ys ≡ zs → Adds p q zs
+adds_as w e = rw e at w
+
+-- two runs, one after the other
+pub adds_join : {p q r : Page} {ys zs : List ℕ} → Adds p q ys → Adds q r zs → Adds p r (ys ++ zs)
+adds_join w x = record { same = x.same ∙ w.same; wrote = wrote_join w.wrote x.wrote }
 
 -- what each of a run of numbers gives, one number a turn
 module _ (f : ℕ → List ℕ) (ns : List ℕ) where
@@ -67,9 +67,8 @@ module _ (f : ℕ → List ℕ) (ns : List ℕ) where
   unfolding gather
   gather_none = rw part_none
 
-  pub wrote_more : {r₀ r r' : List ℕ} {at to to' : ℕ} (i : ℕ) → i < length ns → Wrote r₀ at (gather f (part ns 0 i)) r to → Wrote r to (f (get_or ns i 0)) r' to'
-      → Wrote r₀ at (gather f (part ns 0 (i + 1))) r' to'
-  wrote_more i h w x = rw (front_more ns i h, gather-more) (wrote_join w x)
+  pub adds_more : {p q r : Page} (i : ℕ) → i < length ns → Adds p q (gather f (part ns 0 i)) → Adds q r (f (get_or ns i 0)) → Adds p r (gather f (part ns 0 (i + 1)))
+  adds_more i h w x = rw (front_more ns i h, gather-more) (adds_join w x)
 
-  pub wrote_gathered : {r₀ r : List ℕ} {at to : ℕ} (i : ℕ) → i ≡ length ns → Wrote r₀ at (gather f (part ns 0 i)) r to → Wrote r₀ at (gather f ns) r to
-  wrote_gathered i e w = rw (part-whole ns i e) at w
+  pub adds_gathered : {p q : Page} (i : ℕ) → i ≡ length ns → Adds p q (gather f (part ns 0 i)) → Adds p q (gather f ns)
+  adds_gathered i e w = rw (part-whole ns i e) at w

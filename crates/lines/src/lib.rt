@@ -1,11 +1,11 @@
 // The lines of the bench program, on slices: what a line says is read, and what is printed for it written.
 #![tactic(auto)]
 
-ghost use Rattle.std.specs.Prelude.{◌≡◌, true, [], ◌∷◌, ◌+◌, ◌-◌, ◌<◌, ◌≤◌, min, length, drop};
+ghost use Rattle.std.specs.Prelude.{◌≡◌, true, [], ◌∷◌, ◌+◌, ◌-◌, ◌<◌, ◌≤◌, min, length, drop, MatchOption, IfSome, is_some};
 ghost use Rattle.chars.specs.Put.{put};
 ghost use Rattle.chars.specs.Gather.{gather, every};
 ghost use Rattle.lines.specs.Line.{hex_val, is_hex, pairs, stretch_of, time_said, says_of, stretch_in, line_of, decimal, hex_digit, hex_of, reply_of, column_of, shown_of, other_line};
-ghost use Rattle.lines.specs.Wrote.{Wrote};
+ghost use Rattle.lines.specs.Wrote.{Adds};
 
 // What a line says: a stretch of so many characters, which stand in the lent memory; so many milliseconds; or another form.
 #[derive(Clone, Copy)]
@@ -15,90 +15,63 @@ pub enum Line {
     Other,
 }
 
-// 16 is no digit.
-fn hex_value(b: u8) -> u8
-    ensures { (result ≡ hex_val b) × (result ≤ 16) }
+// Small letters are no digits.
+fn hex_value(digit: u8) -> Option<u8>
+    ensures variant { is_some result ≡ is_hex digit }
+    ensures value { IfSome result (λ v. v ≡ hex_val digit) }
 {
-    if b < 48 {
-        return 16;
+    match digit {
+        b'0'..=b'9' => Some(digit - b'0'),
+        b'A'..=b'F' => Some(digit - b'A' + 10),
+        _ => None,
     }
-    if b < 58 {
-        return b - 48;
-    }
-    if b < 65 {
-        return 16;
-    }
-    if b < 71 {
-        return b - 55;
-    }
-    16
 }
 
-fn all_hex(ds: &[u8]) -> bool
-    ensures { result ≡ every is_hex ds.now }
+fn all_hex(digits: &[u8]) -> bool
+    ensures { result ≡ every is_hex digits.now }
 {
-    let mut i = 0;
-    while i < ds.len() {
-        if hex_value(ds[i]) < 16 {
-            i += 1;
-        } else {
-            return false;
-        }
-    }
-    true
+    digits.iter().all(|digit| hex_value(*digit).is_some())
 }
 
-fn put_pairs(ds: &[u8], out: &mut [u8])
-    requires { every is_hex ds.now ≡ true }
-    ensures { out.new ≡ put out.old 0 (pairs ds.now) }
+fn put_pairs(digits: &[u8], out: &mut [u8])
+    requires { every is_hex digits.now ≡ true }
+    ensures { out.new ≡ put out.old 0 (pairs digits.now) }
 {
-    let count = chars::room(out.len(), 0, ds.len() / 2);
-    let mut i = 0;
-    while i < count {
-        let high = hex_value(ds[2 * i]);
-        let low = hex_value(ds[2 * i + 1]);
+    let count = out.len().min(digits.len() / 2);
+    for i in 0..count {
+        let high = hex_value(digits[2 * i]).unwrap();
+        let low = hex_value(digits[2 * i + 1]).unwrap();
         out[i] = 16 * high + low;
-        i += 1;
     }
 }
 
 // All digits are judged before a character is written.
-fn read_stretch(ds: &[u8], out: &mut [u8]) -> Line
-    ensures { (result ≡ line_of (stretch_of ds.now)) × (out.new ≡ put out.old 0 (stretch_in (stretch_of ds.now))) }
+fn read_stretch(digits: &[u8], out: &mut [u8]) -> Option<usize>
+    ensures answer { MatchOption result (Line.Other ≡ line_of (stretch_of digits.now)) (λ n. Line.Stretch n ≡ line_of (stretch_of digits.now)) }
+    ensures heard { out.new ≡ put out.old 0 (stretch_in (stretch_of digits.now)) }
 {
-    if ds.len() % 2 == 1 {
-        return Line::Other;
+    if digits.len() % 2 == 1 || !all_hex(digits) {
+        return None;
     }
-    if all_hex(ds) {
-        put_pairs(ds, out);
-        return Line::Stretch(ds.len() / 2);
-    }
-    Line::Other
+    put_pairs(digits, out);
+    Some(digits.len() / 2)
 }
 
-fn read_time(ds: &[u8]) -> Line
-    ensures { result ≡ line_of (time_said ds.now) }
+fn read_time(digits: &[u8]) -> Option<u32>
+    ensures { MatchOption result (Line.Other ≡ line_of (time_said digits.now)) (λ v. Line.Time v ≡ line_of (time_said digits.now)) }
 {
-    if ds.len() == 0 {
-        return Line::Other;
+    if digits.is_empty() {
+        return None;
     }
-    let mut v: u64 = 0;
-    let mut i = 0;
-    while i < ds.len() {
-        let d = ds[i];
-        if d < 48 {
-            return Line::Other;
-        }
-        if 57 < d {
-            return Line::Other;
-        }
-        v = v * 10 + ((d - 48) as u64);
-        if 4294967295 < v {
-            return Line::Other;
-        }
-        i += 1;
+    let mut time: u32 = 0;
+    for digit in digits {
+        let worth = match digit {
+            b'0'..=b'9' => u32::from(digit - b'0'),
+            _ => return None,
+        };
+        time = time.checked_mul(10)?.checked_add(worth)?;
     }
-    Line::Time(v as u32)
+    Some(time)
 }
 
 // A stretch for which `out` is too short is clipped; the answer says how long it is all the same.
@@ -108,112 +81,93 @@ pub fn read_line(line: &[u8], out: &mut [u8]) -> Line
     if 2000 < line.len() {
         return Line::Other;
     }
-    if line.len() < 2 {
-        return Line::Other;
+    match line {
+        [b'R', b'\t', digits @ ..] => read_stretch(digits, out).map_or(Line::Other, Line::Stretch),
+        [b'T', b'\t', digits @ ..] => read_time(digits).map_or(Line::Other, Line::Time),
+        _ => Line::Other,
     }
-    let kind = line[0];
-    let tab = line[1];
-    if tab != b'\t' {
-        return Line::Other;
-    }
-    if kind == b'R' {
-        return read_stretch(&line[2..], out);
-    }
-    if kind == b'T' {
-        return read_time(&line[2..]);
-    }
-    Line::Other
 }
 
-fn put_one(out: &mut [u8], at: usize, v: u8) -> usize
-    ensures { Wrote out.old at (v ∷ []) out.new result }
-{
-    if at < out.len() {
-        out[at] = v;
-        return at + 1;
-    }
-    at
-}
-
-// The digits stand at the end of `buf`, from the answer on.
-fn put_digits(buf: &mut [u8], n: u64) -> usize
-    requires { length buf.old ≡ 20 }
+// The digits stand at the end of `buf`, from the answer on: no number has more than 20.
+fn put_digits(buf: &mut [u8; 20], n: u64) -> usize
     ensures { (drop result buf.new ≡ decimal n) × (result ≤ 20) }
 {
     let mut left = n;
-    let mut i = 20;
-    while 9 < left {
-        i -= 1;
-        buf[i] = 48 + ((left % 10) as u8);
-        left = left / 10;
+    for i in (0..20).rev() {
+        buf[i] = b'0' + (left % 10) as u8;
+        left /= 10;
+        if left == 0 {
+            return i;
+        }
     }
-    i -= 1;
-    buf[i] = 48 + (left as u8);
-    i
+    unreachable!()
 }
 
-fn put_run(out: &mut [u8], at: usize, run: &[u8], from: usize) -> usize
-    ensures { Wrote out.old at (drop from run.now) out.new result }
+fn hex_digit(value: u8) -> u8
+    requires { value < 16 }
+    ensures { result ≡ hex_digit value }
 {
-    if run.len() <= from {
-        return at;
+    match value {
+        0..=9 => b'0' + value,
+        _ => b'A' + (value - 10),
     }
-    let n = run.len() - from;
-    chars::copy(run, from, n, out, at);
-    at + chars::room(out.len(), at, n)
 }
 
-fn put_number(out: &mut [u8], at: usize, n: u64) -> usize
-    ensures { Wrote out.old at (decimal n) out.new result }
-{
-    let mut buf = [0u8; 20];
-    let from = put_digits(&mut buf, n);
-    put_run(out, at, &buf, from)
+// Lent memory, and how many characters were written to it. What it has no room for is left out.
+#[derive(Drop)]
+struct Page<'a> {
+    out: &'a mut [u8],
+    at: usize,
 }
 
-fn put_column(out: &mut [u8], at: usize, n: u64) -> usize
-    ensures { Wrote out.old at (column_of n) out.new result }
-{
-    let to = put_number(out, at, n);
-    put_one(out, to, b'\t')
-}
-
-fn hex_digit(v: u8) -> u8
-    requires { v < 16 }
-    ensures { result ≡ hex_digit v }
-{
-    if v < 10 {
-        return 48 + v;
+impl Page<'_> {
+    fn put(&mut self, character: u8)
+        ensures { Adds self.old self.new (character ∷ []) }
+    {
+        if self.at < self.out.len() {
+            self.out[self.at] = character;
+            self.at += 1;
+        }
     }
-    55 + v
-}
 
-fn put_hex(out: &mut [u8], at: usize, c: u8) -> usize
-    ensures { Wrote out.old at (hex_of c) out.new result }
-{
-    let to = put_one(out, at, hex_digit(c / 16));
-    put_one(out, to, hex_digit(c % 16))
-}
-
-fn put_hexes(out: &mut [u8], at: usize, cs: &[u8]) -> usize
-    ensures { Wrote out.old at (gather hex_of cs.now) out.new result }
-{
-    let mut to = at;
-    let mut i = 0;
-    while i < cs.len() {
-        to = put_hex(out, to, cs[i]);
-        i += 1;
+    fn put_all(&mut self, run: &[u8])
+        ensures { Adds self.old self.new run.now }
+    {
+        chars::copy(run, 0, run.len(), self.out, self.at);
+        self.at += run.len().min(self.out.len().saturating_sub(self.at));
     }
-    to
-}
 
-fn put_reply(out: &mut [u8], at: usize, reply: &[u8]) -> usize
-    ensures { Wrote out.old at (reply_of reply.now) out.new result }
-{
-    if reply.len() == 0 {
-        return put_one(out, at, b'-');
+    fn put_column(&mut self, n: u64)
+        ensures { Adds self.old self.new (column_of n) }
+    {
+        let mut buf = [0u8; 20];
+        let from = put_digits(&mut buf, n);
+        self.put_all(&buf[from..]);
+        self.put(b'\t');
     }
-    put_hexes(out, at, reply)
+
+    fn put_hex(&mut self, character: u8)
+        ensures { Adds self.old self.new (hex_of character) }
+    {
+        self.put_all(&[hex_digit(character / 16), hex_digit(character % 16)]);
+    }
+
+    fn put_hexes(&mut self, characters: &[u8])
+        ensures { Adds self.old self.new (gather hex_of characters.now) }
+    {
+        for character in characters {
+            self.put_hex(*character);
+        }
+    }
+
+    fn put_reply(&mut self, reply: &[u8])
+        ensures { Adds self.old self.new (reply_of reply.now) }
+    {
+        match reply {
+            [] => self.put(b'-'),
+            _ => self.put_hexes(reply),
+        }
+    }
 }
 
 // The answer is how many of the characters stand in `out`: all of them where it is long enough.
@@ -221,18 +175,19 @@ pub fn write_line(out: &mut [u8], number: u64, outcome: u8, reply: &[u8]) -> usi
     ensures { (out.new ≡ put out.old 0 (shown_of number outcome reply.now))
         × (result ≡ min (length (shown_of number outcome reply.now)) (length out.old)) }
 {
-    let a = put_column(out, 0, number);
-    let b = put_column(out, a, outcome as u64);
-    let c = put_reply(out, b, reply);
-    put_one(out, c, b'\n')
+    let mut page = Page { out, at: 0 };
+    page.put_column(number);
+    page.put_column(u64::from(outcome));
+    page.put_reply(reply);
+    page.put(b'\n');
+    page.at
 }
 
 pub fn write_other(out: &mut [u8], number: u64) -> usize
     ensures { (out.new ≡ put out.old 0 (other_line number)) × (result ≡ min (length (other_line number)) (length out.old)) }
 {
-    let a = put_column(out, 0, number);
-    let b = put_one(out, a, b'-');
-    let c = put_one(out, b, b'\t');
-    let d = put_one(out, c, b'-');
-    put_one(out, d, b'\n')
+    let mut page = Page { out, at: 0 };
+    page.put_column(number);
+    page.put_all(b"-\t-\n");
+    page.at
 }

@@ -1,20 +1,21 @@
 -- Laws of a table that has for each number the place of an entry told of it: who agrees with that one agrees with all of that number.
 -- Assumes nothing.
 use mathlib.Core.Path.{◌≡◌, refl, sym, ap, ◌∙◌}
-use Prim.Native.Nat.{ℕ, zero, suc, ◌+◌, ◌-◌, ◌<◌, ◌≤◌}
+use Prim.Native.Nat.{ℕ, zero, suc, ◌+◌, ◌*◌, ◌-◌, ◌/◌, ◌<◌, ◌≤◌}
 use native.Mathlib.Numerals.{add-one}
 use native.Mathlib.Omega.{arith}
 use mathlib.Core.List.{List, [], ◌∷◌}
 use mathlib.Core.Bool.{Bool, true, false, ◌&&◌, ◌||◌, false≢true}
-use lib.ListN.{length, get_or, replicate, length-replicate}
+use lib.ListN.{length, take, drop, get_or, set, replicate, length-replicate, length-set}
+use lib.Seq.{get_or-set_same, get_or-set_other, get_or-drop, drop-drop}
 use lib.Dec.{eqb, ltb}
 use borrow.Author.Tests.{eqb-true, eqb-false, ltb-true, ltb-false}
-use Rattle.chars.specs.Put.{put}
+use Rattle.std.proofs.lemmas.List.{get_or-replicate}
+use Rattle.std.specs.Simd.{first_chunks}
+use Rattle.chars.specs.Put.{part}
 use Rattle.chars.specs.Gather.{up_from, every}
-use Rattle.chars.proofs.PutLaws.{length-put}
 use Rattle.model.specs.Believe.{same_chars, entry_at, entry_for, agrees_with}
 use Rattle.master.proofs.SameLaws.{never, and_parts, every-none, every-next, same_self, same_is}
-use Rattle.master.proofs.MarkedLaws.{get_d_put-other, get_d_put-own, get_d_blank}
 use Rattle.master.proofs.ValuesLaws.{agrees-other, agrees-same}
 
 -- ---- numbers from 0 on
@@ -55,7 +56,7 @@ placed_none ns places e =
     record {
       many = ap length e ∙ length-replicate {A = ℕ} 256 0;
       none = λ n h z m l d. omega arith;
-      one = λ n h z. absurd (z (ap (λ zs. get_or zs n 0) e ∙ get_d_blank 256 n));
+      one = λ n h z. absurd (z (ap (λ zs. get_or zs n 0) e ∙ get_or-replicate 256 n 0 0 h));
     }
 
 at_most : (ns places : List ℕ) (i n : ℕ) → Placed ns i places → n < 256 → (b : Bool) → eqb (get_or places n 0) 0 ≡ b → get_or places n 0 ≤ i
@@ -67,15 +68,15 @@ placed_most ns places i n o k = at_most ns places i n o k _ refl
 
 module _ (ns places : List ℕ) (i n : ℕ) (o : Placed ns i places) (k : n < 256) (w : n ≡ get_or ns i 0) where
   next : List ℕ
-  next = put places n ((i + 1) ∷ [])
+  next = set places n (i + 1)
 
   own : (x : ℕ) → x ≡ n → get_or next x 0 ≡ i + 1
   unfolding next
-  own x e = get_d_put-own places n (i + 1) x e (omega (arith, o.many))
+  own x e = ap (λ j. get_or (set places n (i + 1)) j 0) e ∙ get_or-set_same places n (i + 1) 0 (omega (arith, o.many))
 
   other : (x : ℕ) → (x ≡ n → ⊥) → get_or next x 0 ≡ get_or places x 0
   unfolding next
-  other x h = get_d_put-other places n (i + 1) x h
+  other x h = get_or-set_other places n x (i + 1) 0 h
 
   next-none : (x : ℕ) (b : Bool) → eqb x n ≡ b → x < 256 → get_or next x 0 ≡ 0 → (m : ℕ) → m < i + 1 → get_or ns m 0 ≡ x → ⊥
   next-none x true e h z m l d = let v : get_or next x 0 ≡ i + 1 = own x (eqb-true x n e) in omega arith
@@ -93,11 +94,11 @@ module _ (ns places : List ℕ) (i n : ℕ) (o : Placed ns i places) (k : n < 25
       let q = o.one x h (λ r. z (v ∙ r)) in
       (omega (arith, q.0), ap (λ j. get_or ns (j - 1) 0) v ∙ q.1)
 
-  pub placed_more : Placed ns (i + 1) (put places n ((i + 1) ∷ []))
+  pub placed_more : Placed ns (i + 1) (set places n (i + 1))
   unfolding next
   placed_more =
       record {
-        many = length-put places n ((i + 1) ∷ []) ∙ o.many;
+        many = length-set places n (i + 1) ∙ o.many;
         none = λ x h. next-none x _ refl h;
         one = λ x h. next_one x _ refl h;
       }
@@ -163,3 +164,33 @@ pub entries_more : (ns ys places : List ℕ) (i n p : ℕ) (b t : Bool) → b �
     → b && t ≡ every (Judged ns ys) (up_from 0 (i + 1))
 entries_more ns ys places i n p b t e w k o q h =
     every-then (Judged ns ys) i b t e (λ y. h ∙ ap (λ z. entry_for ns ys i && z) (by_place ns ys i (sym e ∙ y) places n w k o p q _ refl))
+
+-- ---- pieces of five
+
+entry_of : (k i : ℕ) (xs : List ℕ) → i < k → get_or (first_chunks 5 k xs) i [] ≡ part xs (5 * i) 5
+unfolding part
+entry_of zero i xs h = absurd (omega arith)
+entry_of (suc k) zero xs h = refl
+entry_of (suc k) (suc i) xs h =
+    let n : 5 * suc i ≡ 5 + 5 * i = omega arith in
+    entry_of k i (drop 5 xs) (omega arith) ∙ rw (n, drop-drop) refl
+
+first_of : (xs : List ℕ) → get_or (take 5 xs) 0 0 ≡ get_or xs 0 0
+first_of [] = refl
+first_of (x ∷ xs) = refl
+
+number_of : (ys : List ℕ) (i : ℕ) → get_or (part ys (5 * i) 5) 0 0 ≡ get_or ys (5 * i) 0
+unfolding part
+number_of ys i = first_of (drop (5 * i) ys) ∙ get_or-drop (5 * i) ys 0 0 ∙ ap (λ j. get_or ys j 0) (omega arith)
+
+-- the same turn of the loop over the pieces
+pub pieces_more : (ns ys places : List ℕ) (es : List (List ℕ)) (i n : ℕ) (b t : Bool) → es ≡ first_chunks 5 (length ys / 5) ys → i < length ys / 5
+    → b ≡ every (Judged ns ys) (up_from 0 i) → n ≡ get_or ns i 0 → n < 256 → Placed ns i places
+    → t ≡ (eqb (get_or places n 0) 0 || same_chars (get_or es i []) (get_or es (get_or places n 0 - 1) []))
+    → b && ((ltb (get_or ns i 0) 128 && eqb (get_or (get_or es i []) 0 0) (get_or ns i 0)) && t) ≡ every (Judged ns ys) (up_from 0 (i + 1))
+unfolding entry_for entry_at
+pieces_more ns ys places es i n b t d l e w k o h =
+    let p : get_or places n 0 ≤ i = placed_most ns places i n o k in
+    let x : get_or es i [] ≡ part ys (5 * i) 5 = rw d (entry_of _ i ys l) in
+    let y : get_or es (get_or places n 0 - 1) [] ≡ part ys (5 * (get_or places n 0 - 1)) 5 = rw d (entry_of _ (get_or places n 0 - 1) ys (omega arith)) in
+    entries_more ns ys places i n (get_or places n 0) b _ e w k o refl (rw (h, x, y, number_of ys i) refl)

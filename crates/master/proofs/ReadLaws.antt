@@ -8,6 +8,7 @@ use mathlib.Core.Bool.{Bool, true, false, cond, ◌&&◌, ◌||◌, false≢true
 use lib.ListN.{length, get_or}
 use lib.Dec.{eqb, leb}
 use borrow.Author.Tests.{le-leb, le-ltb, lt-ltb, eqb-true}
+use Rattle.std.specs.Prelude.{Result, Ok, Err}
 use Rattle.chars.specs.Put.{put}
 use Rattle.chars.specs.Word.{word_at}
 use Rattle.chars.proofs.PutLaws.{put-none, part-most}
@@ -18,28 +19,29 @@ use Rattle.model.specs.Believe.{quantity_in, size_in, records_told, sized, tells
 use Rattle.model.specs.Poll.{Polling, Waiting, nothing, history, another, keeps_anew, records_kept, kept_when, poll_of, whole_reply, to_one, read_for, read_over, reads, received}
 use Rattle.model.specs.declared.Read.{Read}
 use Rattle.model.specs.declared.Read.TheVariants.{Normal, NotWhole, CheckWrong, OtherAddress, OtherFunction, NoSuchData, Nop, Rst}
-use Rattle.master.specs.declared.Reading.TheVariants.{Judged, NotConfigured, RoomShort}
+use Rattle.master.specs.declared.Refusal.{Refusal}
+use Rattle.master.specs.declared.Refusal.TheVariants.{NotConfigured, RoomShort}
 use Rattle.master.specs.declared.Taken.{Taken}
 use Rattle.master.specs.Polled.{waiting_at, address_in, asked_in, waiting_in, poll_in, in_range}
-use Rattle.master.specs.Taken.{address_waiting, data_read, asks_history, keeps_for, is_normal, settled_in, takes_in, can_read, memory_taken, records_read, joined, wholly, size_taken, reading_taken, taken_of}
+use Rattle.master.specs.Taken.{address_waiting, data_read, asks_history, keeps_for, is_normal, settled_in, takes_in, can_read, memory_taken, records_read, joined, wholly, size_taken, taken_of}
 use Rattle.master.proofs.SameLaws.{and_parts, and_false}
 use Rattle.master.proofs.RecordsLaws.{sized_bounds}
 use Rattle.master.proofs.ReplyLaws.{reads_over, whole_long, data_poll}
 
 -- what a call that reads promises
-abbrev pub Taking : List ℕ → List ℕ → List ℕ → Taken → List ℕ → List ℕ → Type 0
+abbrev pub Taking : List ℕ → List ℕ → List ℕ → Result Taken Refusal → List ℕ → List ℕ → Type 0
 Taking p r room t p' room' =
     (t ≡ taken_of p r (length room)) × (p' ≡ memory_taken p r (length room)) × (room' ≡ put room 0 (joined (records_read p r (length room))))
 
 -- ---- nothing is read
 
 module _ (p r room : List ℕ) where
-  pub read_short : length room < 511 → Taking p r room (record { reading = RoomShort; count = 0; size = 0 }) p room
-  unfolding taken_of memory_taken records_read can_read reading_taken joined size_taken
+  pub read_short : length room < 511 → Taking p r room (Err RoomShort) p room
+  unfolding taken_of memory_taken records_read can_read joined
   read_short h = let e = lt-ltb (length room) 511 h in rw e (refl, refl, sym (put-none room 0))
 
-  pub read_unranged : 511 ≤ length room → in_range p ≡ false → Taking p r room (record { reading = NotConfigured; count = 0; size = 0 }) p room
-  unfolding taken_of memory_taken records_read can_read reading_taken joined size_taken
+  pub read_unranged : 511 ≤ length room → in_range p ≡ false → Taking p r room (Err NotConfigured) p room
+  unfolding taken_of memory_taken records_read can_read joined
   read_unranged h n = let e = le-ltb (length room) 511 h in rw (e, n) (refl, refl, sym (put-none room 0))
 
 -- ---- the records received
@@ -141,13 +143,9 @@ module _ (p r room : List ℕ) (h : 511 ≤ length room) (n : in_range p ≡ tru
   unfolding memory_taken takes_in
   memory_is = rw (can_read_lem, anew_is, ← d, ← e)
 
-  reading_is : reading_taken p r (length room) ≡ Judged x
-  unfolding reading_taken
-  reading_is = rw (le-ltb (length room) 511 h, n, ← e)
-
-  taken_is : taken_of p r (length room) ≡ record { reading = Judged x; count = length (cond (t && k) (records_told ys) []); size = size_taken ys (cond (t && k) (records_told ys) []) }
+  taken_is : taken_of p r (length room) ≡ Ok (record { read = x; count = length (cond (t && k) (records_told ys) []); size = size_taken ys (cond (t && k) (records_told ys) []) })
   unfolding taken_of
-  taken_is = rw (reading_is, records_are, ← d)
+  taken_is = rw (le-ltb (length room) 511 h, n, records_are, ← d, ← e)
 
   is_normal_lem : t && k ≡ true → is_normal (read_over (address_waiting p) r (data_read p r)) ≡ true
   is_normal_lem a = rw (← reads_over p r, ← e, ← f) (and_parts t k a).0
@@ -163,11 +161,11 @@ module _ (p r room : List ℕ) (h : 511 ≤ length room) (n : in_range p ≡ tru
       let normal = (over_normal (address_waiting p) r (data_read p r) (is_normal_lem a)).1 in
       rw d (poll-told p r (for_told (poll_of (address_in p) (poll_in p)) r (rw (← data_poll p r (get_or p waiting_at 0) refl z) at normal)))
 
-  pub read_kept : t && k ≡ true → (taken : Taken) (p' room' : List ℕ) → p' ≡ settled_in p ys (t && k) x
-      → taken ≡ record { reading = Judged x; count = length (records_told ys); size = size_taken ys (records_told ys) }
-      → room' ≡ put room 0 (joined (records_told ys)) → Taking p r room taken p' room'
-  read_kept a taken p' room' m u v = (u ∙ sym (taken_is ∙ rw a), m ∙ sym memory_is, v ∙ rw (records_are, a))
+  pub read_kept : t && k ≡ true → (p' room' : List ℕ) (count size : ℕ) → p' ≡ settled_in p ys (t && k) x
+      → count ≡ length (records_told ys) → size ≡ size_taken ys (records_told ys)
+      → room' ≡ put room 0 (joined (records_told ys)) → Taking p r room (Ok (record { read = x; count = count; size = size })) p' room'
+  read_kept a p' room' count size m u w v = (rw (u, w) (sym (taken_is ∙ rw a)), m ∙ sym memory_is, v ∙ rw (records_are, a))
 
-  pub read_none : t && k ≡ false → (p' : List ℕ) → p' ≡ settled_in p ys (t && k) x → Taking p r room (record { reading = Judged x; count = 0; size = 0 }) p' room
+  pub read_none : t && k ≡ false → (p' : List ℕ) → p' ≡ settled_in p ys (t && k) x → Taking p r room (Ok (record { read = x; count = 0; size = 0 })) p' room
   unfolding joined size_taken
   read_none a p' m = (sym (taken_is ∙ rw a), m ∙ sym memory_is, rw (records_are, a) (sym (put-none room 0)))

@@ -1,14 +1,16 @@
 -- Laws of lists that are compared, and of numbers that stand in one: what a loop's turn adds, and what the answer means.
 -- Assumes nothing.
-use mathlib.Core.Path.{◌≡◌, refl, sym}
-use Prim.Native.Nat.{ℕ, ◌+◌, ◌<◌}
+use mathlib.Core.Path.{◌≡◌, refl, sym, ap}
+use Prim.Native.Nat.{ℕ, ◌+◌, ◌<◌, ◌≤◌}
 use native.Mathlib.Numerals.{add-one}
 use native.Mathlib.Omega.{arith}
 use mathlib.Core.List.{List, [], ◌∷◌, ◌++◌}
-use mathlib.Core.Bool.{Bool, true, false, ◌&&◌, ◌||◌, false≢true}
+use mathlib.Core.Bool.{Bool, true, false, cond, ◌&&◌, ◌||◌, false≢true}
 use lib.ListN.{length, take, get_or}
-use lib.Seq.{take-suc, take_all, length-take-le}
+use lib.Seq.{take-suc, take_all}
 use lib.Dec.{eqb}
+use lib.Pointwise.{pointwise}
+use mir.Val.{bool_byte}
 use borrow.Author.Tests.{eqb-true, eq-eqb}
 use Rattle.chars.specs.Gather.{up_from, every}
 use Rattle.chars.proofs.GatherLaws.{up_next}
@@ -28,6 +30,10 @@ pub and_false : (a : Bool) → a && false ≡ false
 and_false true = refl
 and_false false = refl
 
+pub and_swap : (a b c : Bool) → a && (b && c) ≡ b && (c && a)
+and_swap true b c = rw and_true refl
+and_swap false b c = rw (and_false, and_false) refl
+
 pub or_assoc : (a b c : Bool) → (a || b) || c ≡ a || (b || c)
 or_assoc true b c = refl
 or_assoc false b c = refl
@@ -35,6 +41,14 @@ or_assoc false b c = refl
 pub or_false : (a : Bool) → a || false ≡ a
 or_false true = refl
 or_false false = refl
+
+pub bool_byte-most : (a : Bool) → bool_byte a ≤ 1
+bool_byte-most true = omega arith
+bool_byte-most false = omega arith
+
+pub bool_byte_is : (a : Bool) → bool_byte a ≡ cond a 1 0
+bool_byte_is true = refl
+bool_byte_is false = refl
 
 pub never : (a : Bool) → (a ≡ true → ⊥) → false ≡ a
 never true h = absurd (h refl)
@@ -46,33 +60,13 @@ and_parts false b e = absurd (false≢true e)
 
 -- ---- the same characters
 
-same_append : (xs ys : List ℕ) (x y : ℕ) → length xs ≡ length ys → same_chars (xs ++ (x ∷ [])) (ys ++ (y ∷ [])) ≡ same_chars xs ys && eqb x y
+-- as == compares two slices
+pub same_eq : (xs ys : List ℕ) → pointwise eqb xs ys ≡ same_chars xs ys
 unfolding same_chars
-same_append [] [] x y e = and_true (eqb x y)
-same_append [] (z ∷ ys) x y e = absurd (omega arith)
-same_append (w ∷ xs) [] x y e = absurd (omega arith)
-same_append (w ∷ xs) (z ∷ ys) x y e = rw (same_append xs ys x y (omega arith), and_assoc)
-
-pub same_none : (xs ys : List ℕ) → true ≡ same_chars (take 0 xs) (take 0 ys)
-unfolding same_chars
-same_none xs ys = refl
-
--- a turn of a loop over both
-pub same_more : (xs ys : List ℕ) (i : ℕ) (b : Bool) → i < length xs → i < length ys → b ≡ same_chars (take i xs) (take i ys)
-    → b && eqb (get_or xs i 0) (get_or ys i 0) ≡ same_chars (take (i + 1) xs) (take (i + 1) ys)
-same_more xs ys i b h k e =
-    rw (e, add-one, take-suc xs i 0 h, take-suc ys i 0 k)
-    (sym (same_append (take i xs) (take i ys) _ _ (omega (arith, length-take-le i xs (omega arith), length-take-le i ys (omega arith)))))
-
-pub same-other : (xs ys : List ℕ) → (length ys ≡ length xs → ⊥) → false ≡ same_chars xs ys
-unfolding same_chars
-same-other [] [] h = absurd (h refl)
-same-other [] (y ∷ ys) h = refl
-same-other (x ∷ xs) [] h = refl
-same-other (x ∷ xs) (y ∷ ys) h = rw (← same-other xs ys (λ e. h (omega arith))) (sym (and_false (eqb x y)))
-
-pub same_whole : (xs ys : List ℕ) (n : ℕ) (b : Bool) → n ≡ length xs → length ys ≡ length xs → b ≡ same_chars (take n xs) (take n ys) → b ≡ same_chars xs ys
-same_whole xs ys n b e l h = rw (take_all n xs (omega arith), take_all n ys (omega arith)) at h
+same_eq [] [] = refl
+same_eq [] (y ∷ ys) = refl
+same_eq (x ∷ xs) [] = refl
+same_eq (x ∷ xs) (y ∷ ys) = ap (λ b. eqb x y && b) (same_eq xs ys)
 
 pub same_self : (xs : List ℕ) → same_chars xs xs ≡ true
 unfolding same_chars

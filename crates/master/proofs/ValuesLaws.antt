@@ -10,6 +10,7 @@ use lib.ListN.{length, take, get_or, length-append}
 use lib.Seq.{take-suc, take_all}
 use lib.Dec.{eqb, leb, ltb}
 use borrow.Author.Tests.{le-leb, leb-true, eq-eqb, ne_eqb, eqb-true, eqb-false, ltb-true, ltb-false, lt-ltb, le-ltb}
+use mir.Val.{bool_byte}
 use Rattle.chars.specs.Put.{part}
 use Rattle.chars.specs.Gather.{gather, up_from, every}
 use Rattle.chars.proofs.GatherLaws.{gather-more}
@@ -97,7 +98,7 @@ module _ (ns ys : List ℕ) (i : ℕ) (h : i < length ns) where
   gathered_one = rw (add-one, take-suc ns i 0 h, gather-more)
 
   pub ordered_more : (told : Bool) (at : ℕ) (missing : Bool) → missing ≡ stands (get_or ns i 0) ys → Ordered ns ys told at i
-      → Ordered ns ys (told && (not missing || (ltb at (length ys) && eqb (get_or ys at 0) (get_or ns i 0)))) (at + cond missing 1 0) (i + 1)
+      → Ordered ns ys (told && (not missing || (ltb at (length ys) && eqb (get_or ys at 0) (get_or ns i 0)))) (at + bool_byte missing) (i + 1)
   ordered_more told at true e o =
       let one : own ys (get_or ns i 0) ≡ get_or ns i 0 ∷ [] = rw (← e) in
       record {

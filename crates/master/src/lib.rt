@@ -54,18 +54,17 @@ const DATA: usize = LENGTH + 2;
 
 pub const POLL: usize = DATA + MOST;
 
-// How a call that reads ended: the reply was judged; the memory is out of range; the room cannot hold the records of any reply.
-#[derive(Clone, Copy)]
-pub enum Reading {
-    Judged(Read),
+// Why a call that reads judged no reply: the memory is out of range; the room cannot hold the records of any reply.
+#[derive(Clone, Copy, PartialEq, Eq)]
+pub enum Refusal {
     NotConfigured,
     RoomShort,
 }
 
-// With how many records were kept, and how many characters each has.
-#[derive(Clone, Copy)]
+// How a reply was read, how many records were kept, and how many characters each has.
+#[derive(Clone, Copy, PartialEq, Eq)]
 pub struct Taken {
-    pub reading: Reading,
+    pub read: Read,
     pub count: u8,
     pub size: u8,
 }

@@ -14,128 +14,107 @@ use super::memory::{char_at, in_range};
 use super::request::address_for;
 use super::settle::{is_normal, keeps_for, lay_records, settle};
 use super::{
-    ADDRESS, ALL, BODY, COMMAND, COUNT, FUNCTION, LATEST, MOST, POLL, Reading, Taken, WAITING,
+    ADDRESS, ALL, BODY, COMMAND, COUNT, FUNCTION, LATEST, MOST, POLL, Refusal, Taken, WAITING,
 };
 use chars::word_at;
-use checkword::check_word;
-use frames::unit_of;
+use frames::{data_behind, is_checked, unit_of};
 use model::{Frame, Read, Reply};
 
 // The shortest reply has no data.
 const SHORTEST: usize = Reply::HEAD + 2;
 
 // The data of a reply stand between head and check; one too short for both has none.
+#[tactic(auto, unfolding(chars::specs::Put::part, model::specs::Line::data_of))]
 pub fn data_of<'a>(reply: &'a [u8]) -> &'a [u8]
     ensures { result.now ≡ data_of reply.now }
 {
-    let len = reply.len();
-    if len < SHORTEST {
-        return &reply[..0];
-    }
-    let end = len - 2;
-    &reply[Reply::HEAD..end]
+    data_behind(reply, Reply::HEAD)
 }
 
 // ---- judged
 
+#[tactic(auto, unfolding(model::specs::Poll::whole_reply))]
 fn is_whole(reply: &[u8]) -> bool
     ensures { result ≡ whole_reply reply.now }
 {
     let n = reply.len();
-    (SHORTEST <= n) & ((n <= Reply::LONGEST) & (n == SHORTEST + word_at(reply, 5) as usize))
-}
-
-fn is_checked(reply: &[u8]) -> bool
-    requires { 2 ≤ length reply.now }
-    ensures { result ≡ checked reply.now }
-{
-    let end = reply.len() - 2;
-    word_at(reply, end) == check_word(0, &reply[..end])
+    (SHORTEST <= n) & ((n <= Reply::LONGEST) & (n == SHORTEST + usize::from(word_at(reply, 5))))
 }
 
 // Data that no unit could send are not believed.
 fn believed(could: bool, as_read: Read) -> Read
     ensures { result ≡ cond could as_read NoSuchData }
 {
-    if could {
-        return as_read;
-    }
-    Read::NoSuchData
+    if could { as_read } else { Read::NoSuchData }
 }
 
 // Normal, NOP or RST by the two high bits of the function. To a broadcast no unit sends anything.
-fn read_for<'a>(frame: Frame, body: &'a [u8], reply: &'a [u8]) -> Read
+fn read_for(frame: Frame, body: &[u8], reply: &[u8]) -> Read
     ensures { result ≡ read_for (asked frame body.now) reply.now }
 {
-    let told = chars::wide(char_at(reply, 2));
-    let function = chars::wide(frame.function);
-    let one = !(unit_of(frame.address) == BROADCAST);
+    let told = u16::from(char_at(reply, 2));
+    let function = u16::from(frame.function);
+    let one = unit_of(frame.address) != BROADCAST;
     let ys = data_of(reply);
     if told == function {
-        return believed(one & could_tell(frame, body, ys), Read::Normal);
+        believed(one & could_tell(frame, body, ys), Read::Normal)
+    } else if told == function + 0x40 {
+        believed(one & could_refuse(frame, body, ys), Read::Nop)
+    } else if told == function + 0x80 {
+        believed(one & ys.is_empty(), Read::Rst)
+    } else {
+        Read::OtherFunction
     }
-    if told == function + 0x40 {
-        return believed(one & could_refuse(frame, body, ys), Read::Nop);
-    }
-    if told == function + 0x80 {
-        return believed(one & (ys.len() == 0), Read::Rst);
-    }
-    Read::OtherFunction
 }
 
 // The latest history request is outstanding.
-fn read_poll<'a>(poll: &'a [u8; POLL], reply: &'a [u8]) -> Read
+fn read_poll(poll: &[u8; POLL], reply: &[u8]) -> Read
     requires { get_or poll.now latest_at 0 < 128 }
     ensures { result ≡ read_for (poll_of (address_in poll.now) (poll_in poll.now)) reply.now }
 {
-    let frame = Frame::new(word_at(poll, ADDRESS), 0x04, char_at(poll, LATEST), 0);
-    read_for(frame, &reply[..0], reply)
+    let frame = Frame::new(word_at(poll, ADDRESS), 0x04, poll[LATEST], 0);
+    read_for(frame, &[], reply)
 }
 
 // The address word of the request that is outstanding, or of the unit polled where none is.
+#[tactic(auto, unfolding(crate::specs::Taken::address_waiting, crate::specs::Polled::address_in))]
 fn waiting_address(poll: &[u8; POLL]) -> u16
     ensures { result ≡ address_waiting poll.now }
 {
-    let all = (2 <= char_at(poll, WAITING)) & (char_at(poll, ALL) == 1);
+    let all = (2 <= poll[WAITING]) & (poll[ALL] == 1);
     address_for(word_at(poll, ADDRESS), all)
 }
 
 // The head of another request that is outstanding, and its data.
+#[tactic(auto, unfolding(crate::specs::Polled::address_asked, crate::specs::Polled::address_in))]
 fn asked_frame(poll: &[u8; POLL]) -> Frame
     ensures { result ≡ record { address = address_asked poll.now; function = get_or poll.now function_at 0; command = get_or poll.now command_at 0; count = get_or poll.now count_at 0 } }
 {
-    let address = address_for(word_at(poll, ADDRESS), char_at(poll, ALL) == 1);
-    Frame::new(
-        address,
-        char_at(poll, FUNCTION),
-        char_at(poll, COMMAND),
-        char_at(poll, COUNT),
-    )
+    let address = address_for(word_at(poll, ADDRESS), poll[ALL] == 1);
+    Frame::new(address, poll[FUNCTION], poll[COMMAND], poll[COUNT])
 }
 
-fn asked_body<'a>(poll: &'a [u8; POLL]) -> &'a [u8]
+fn asked_body(poll: &[u8; POLL]) -> &[u8]
     ensures { result.now ≡ part poll.now body_at (get_or poll.now count_at 0) }
 {
-    let end = BODY + chars::wide(char_at(poll, COUNT));
-    let memory = &poll[..];
-    &memory[BODY..end]
+    &poll[BODY..BODY + usize::from(poll[COUNT])]
 }
 
 // Another request is outstanding.
-fn read_asked<'a>(poll: &'a [u8; POLL], reply: &'a [u8]) -> Read
+#[tactic(auto, unfolding(crate::specs::Polled::asked_in))]
+fn read_asked(poll: &[u8; POLL], reply: &[u8]) -> Read
     ensures { result ≡ read_for (asked_in poll.now) reply.now }
 {
-    let frame = asked_frame(poll);
-    read_for(frame, asked_body(poll), reply)
+    read_for(asked_frame(poll), asked_body(poll), reply)
 }
 
 // What function and data come to, by what is outstanding.
-fn read_data<'a>(poll: &'a [u8; POLL], reply: &'a [u8]) -> Read
+#[tactic(auto, unfolding(crate::specs::Taken::data_read))]
+fn read_data(poll: &[u8; POLL], reply: &[u8]) -> Read
     requires { get_or poll.now latest_at 0 < 128 }
     ensures { result ≡ data_read poll.now reply.now }
 {
-    let waiting = char_at(poll, WAITING);
-    match waiting {
+    match poll[WAITING] {
         0 => Read::OtherFunction,
         1 => read_poll(poll, reply),
         _ => read_asked(poll, reply),
@@ -143,55 +122,51 @@ fn read_data<'a>(poll: &'a [u8; POLL], reply: &'a [u8]) -> Read
 }
 
 // Whole, checked, and with the address word asked with; then the rest.
-fn judge<'a>(poll: &'a [u8; POLL], reply: &'a [u8]) -> Read
+fn judge(poll: &[u8; POLL], reply: &[u8]) -> Read
     requires { in_range poll.now ≡ true }
     ensures { result ≡ reads (address_in poll.now) (poll_in poll.now) reply.now }
 {
-    if is_whole(reply) {
-        if is_checked(reply) {
-            if word_at(reply, 0) == waiting_address(poll) {
-                return read_data(poll, reply);
-            }
-            return Read::OtherAddress;
-        }
-        return Read::CheckWrong;
+    if !is_whole(reply) {
+        Read::NotWhole
+    } else if !is_checked(reply) {
+        Read::CheckWrong
+    } else if word_at(reply, 0) != waiting_address(poll) {
+        Read::OtherAddress
+    } else {
+        read_data(poll, reply)
     }
-    Read::NotWhole
 }
 
 // ---- read
 
 // A reply is judged, and what it leaves is kept: the records of a normal reply to the latest history request that is no repeat stand in the
 // front of the room. Nothing changes where the room cannot hold the records of any reply, or the memory is out of range.
-pub fn read(poll: &mut [u8; POLL], reply: &[u8], room: &mut [u8]) -> Taken
+pub fn read(poll: &mut [u8; POLL], reply: &[u8], room: &mut [u8]) -> Result<Taken, Refusal>
     ensures { (result ≡ taken_of poll.old reply.now (length room.old))
         × (poll.new ≡ memory_taken poll.old reply.now (length room.old))
         × (room.new ≡ put room.old 0 (joined (records_read poll.old reply.now (length room.old)))) }
 {
     if room.len() < MOST {
-        return Taken {
-            reading: Reading::RoomShort,
+        return Err(Refusal::RoomShort);
+    }
+    if !in_range(poll) {
+        return Err(Refusal::NotConfigured);
+    }
+    let judged = judge(poll, reply);
+    let ys = data_of(reply);
+    let anew = is_normal(judged) & keeps_for(poll, ys);
+    settle(poll, judged, anew, ys);
+    if !anew {
+        return Ok(Taken {
+            read: judged,
             count: 0,
             size: 0,
-        };
+        });
     }
-    if in_range(poll) {
-        let judged = judge(poll, reply);
-        let ys = data_of(reply);
-        let anew = is_normal(judged) & keeps_for(poll, ys);
-        settle(poll, judged, anew, ys);
-        if anew {
-            return lay_records(judged, ys, room);
-        }
-        return Taken {
-            reading: Reading::Judged(judged),
-            count: 0,
-            size: 0,
-        };
-    }
-    Taken {
-        reading: Reading::NotConfigured,
-        count: 0,
-        size: 0,
-    }
+    let (count, size) = lay_records(ys, room);
+    Ok(Taken {
+        read: judged,
+        count,
+        size,
+    })
 }

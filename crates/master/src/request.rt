@@ -5,16 +5,16 @@ ghost use Rattle.model.specs.Limits.{longest_frame, most_asked};
 ghost use Rattle.model.specs.Frame.{unit_of, broadcast_unit, asked, frame_chars};
 ghost use Rattle.model.specs.Ask.{askable, to_all};
 ghost use Rattle.master.specs.Polled.{free_at, latest_at, waiting_at};
-ghost use Rattle.master.specs.Built.{begun, char_of, latest_built, turns_in, memory_polled, frame_polled, memory_built, frame_built, Lays};
+ghost use Rattle.master.specs.Built.{begun, latest_built, turns_in, memory_polled, frame_polled, memory_built, frame_built, Lays};
 
 use super::ask::{BROADCAST, is_askable};
-use super::memory::{char_at, in_range};
+use super::memory::in_range;
 use super::{ADDRESS, ALL, BODY, COMMAND, COUNT, FREE, FUNCTION, LATEST, MOST, POLL, WAITING};
-use chars::put_char;
 use frames::{lay, unit_of};
 use model::Frame;
 
 // The address word, and else 0.
+#[tactic(auto, unfolding(crate::specs::Built::begun))]
 pub fn begin(poll: &mut [u8; POLL], address: u16)
     ensures { poll.new ≡ begun address }
 {
@@ -24,65 +24,60 @@ pub fn begin(poll: &mut [u8; POLL], address: u16)
 
 // ---- what is kept of a request
 
-// A truth as a character.
-fn char_of(b: bool) -> u8
-    ensures { result ≡ char_of b }
-{
-    if b {
-        return 1;
-    }
-    0
-}
-
 // The latest history request after one was built: a repeat names the file of the latest, whatever is wished now.
+#[tactic(auto, unfolding(crate::specs::Built::latest_built))]
 fn latest_built(poll: &[u8; POLL], command: u8) -> u8
     requires { command < 64 }
     ensures { result ≡ latest_built poll.now command }
 {
-    if char_at(poll, FREE) == 0 {
-        return 64 + command;
+    if poll[FREE] == 0 {
+        64 + command
+    } else {
+        poll[LATEST] % 64
     }
-    char_at(poll, LATEST) % 64
 }
 
 // The latest history request is outstanding; the bit is not free before a reply to it came.
+#[tactic(auto, using(chars::proofs::PutLaws::put_one))]
 fn keep_poll(poll: &mut [u8; POLL], latest: u8)
     ensures { poll.new ≡ put (put (put poll.old latest_at (latest ∷ [])) free_at (1 ∷ [])) waiting_at (1 ∷ []) }
 {
-    put_char(poll, LATEST, latest);
-    put_char(poll, FREE, 1);
-    put_char(poll, WAITING, 1);
+    poll[LATEST] = latest;
+    poll[FREE] = 1;
+    poll[WAITING] = 1;
 }
 
 // Another request is outstanding.
-fn keep_asked(poll: &mut [u8; POLL], all: bool, function: u8, command: u8, body: &[u8])
+fn keep_asked(poll: &mut [u8; POLL], all: bool, frame: Frame, body: &[u8])
     requires { length body.now ≤ most_asked }
-    ensures { poll.new ≡ turns_in poll.old (record { all = all; function = function; command = command; body = body.now }) }
+    ensures { poll.new ≡ turns_in poll.old (record { all = all; function = frame.function; command = frame.command; body = body.now }) }
 {
     let n = body.len();
-    put_char(poll, WAITING, 2);
-    put_char(poll, FUNCTION, function);
-    put_char(poll, COMMAND, command);
-    put_char(poll, ALL, char_of(all));
-    put_char(poll, COUNT, n as u8);
+    poll[WAITING] = 2;
+    poll[FUNCTION] = frame.function;
+    poll[COMMAND] = frame.command;
+    poll[ALL] = u8::from(all);
+    poll[COUNT] = n as u8;
     chars::copy(body, 0, n, poll, BODY);
 }
 
 // The address word of the unit polled, or of all units.
+#[tactic(auto, unfolding(model::specs::Ask::to_all))]
 pub fn address_for(address: u16, all: bool) -> u16
     ensures { result ≡ cond all (to_all address) address }
 {
     if all {
-        return address / 2048 * 2048 + BROADCAST;
+        address / 2048 * 2048 + BROADCAST
+    } else {
+        address
     }
-    address
 }
 
 // The master may send this: it polls a unit, not all, and the figures make a request.
 fn may_ask(address: u16, frame: Frame, body: &[u8]) -> bool
     ensures { result ≡ (not (eqb (unit_of address) broadcast_unit) && askable (asked frame body.now)) }
 {
-    !(unit_of(address) == BROADCAST) & is_askable(frame, body)
+    (unit_of(address) != BROADCAST) & is_askable(frame, body)
 }
 
 // ---- a request built
@@ -109,6 +104,7 @@ fn build_poll(
 }
 
 // Any other.
+#[tactic(auto, using(frames::proofs::LayLaws::laid_is))]
 fn build_other(
     poll: &mut [u8; POLL],
     all: bool,
@@ -120,7 +116,7 @@ fn build_other(
     ensures { Lays poll.old poll.new buffer.old buffer.new result (frame_chars (asked frame body.now))
         (turns_in poll.old (record { all = all; function = frame.function; command = frame.command; body = body.now })) }
 {
-    keep_asked(poll, all, frame.function, frame.command, body);
+    keep_asked(poll, all, frame, body);
     lay(buffer, frame, body)
 }
 
@@ -139,18 +135,16 @@ pub fn build(
         (frame_built poll.old (length buffer.old) room (record { all = all; function = function; command = command; body = body.now }))
         (memory_built poll.old (length buffer.old) room (record { all = all; function = function; command = command; body = body.now })) }
 {
-    if buffer.len() < Frame::LONGEST {
+    if buffer.len() < Frame::LONGEST || !in_range(poll) {
         return 0;
     }
-    if in_range(poll) {
-        let address = chars::word_at(poll, ADDRESS);
-        let frame = Frame::new(address_for(address, all), function, command, 0);
-        if may_ask(address, frame, body) {
-            if function == 0x04 {
-                return build_poll(poll, room, address, command, body, buffer);
-            }
-            return build_other(poll, all, frame, body, buffer);
-        }
+    let address = chars::word_at(poll, ADDRESS);
+    let frame = Frame::new(address_for(address, all), function, command, 0);
+    if !may_ask(address, frame, body) {
+        0
+    } else if function == 0x04 {
+        build_poll(poll, room, address, command, body, buffer)
+    } else {
+        build_other(poll, all, frame, body, buffer)
     }
-    0
 }

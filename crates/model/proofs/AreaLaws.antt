@@ -22,8 +22,8 @@ use Rattle.model.specs.Contacts.{Contacted, contact_of, anew}
 use Rattle.model.specs.Control.{is_of}
 use Rattle.model.specs.Blocks.{Executed, known, ordinal_start, block_of, not_executed, reaches, executes, execute_when, execute_of}
 use Rattle.model.specs.declared.Outcome.{Outcome}
-use Rattle.model.specs.declared.Pending.{Pending}
-use Rattle.model.specs.declared.Pending.TheVariants.{NoWrite, Waits}
+use Rattle.std.specs.Prelude.{None, Option, Some}
+use Rattle.model.specs.declared.Write.{Write}
 use Rattle.model.proofs.Conditions.{by_cond, by_bool, and_right}
 
 pub record LeavesValues (a b : Areas) : Type 0 where
@@ -99,15 +99,15 @@ module _ (fixed block : List ℕ) where
       })
       (λ e. not_executed-long _)
 
-  execute_when-long : (p : Pending) (q : Request) → BothLong fixed block (execute_when p fixed block q)
+  execute_when-long : (p : Option Write) (q : Request) → BothLong fixed block (execute_when p fixed block q)
   unfolding execute_when
-  execute_when-long NoWrite q = not_executed-long _
-  execute_when-long (Waits w) q =
+  execute_when-long None q = not_executed-long _
+  execute_when-long (Some w) q =
       by_cond (BothLong fixed block) (is_of w.master (master_of q.address))
       (λ e. executes-long w.ordinal.0 w.bias q.body)
       (λ e. not_executed-long _)
 
-  pub execute-long : (p : Pending) (q : Request) → BothLong fixed block (execute_of p fixed block q)
+  pub execute-long : (p : Option Write) (q : Request) → BothLong fixed block (execute_of p fixed block q)
   unfolding execute_of
   execute-long p q =
       by_cond (BothLong fixed block) (within 1 most_asked (length q.body)) (λ e. execute_when-long p q) (λ e. not_executed-long _)
@@ -140,22 +140,22 @@ module _ (fixed block : List ℕ) where
       (λ r t. by_cond (λ (xs : List ℕ). part xs 16 256 ≡ part fixed 16 256) (eqb o 0x06) (λ e. refl) (λ e. put_tabled o bias ys r e t))
       (λ r t. refl)
 
-  execute_when_tabled : (p : Pending) (q : Request) → Tabled fixed (execute_when p fixed block q)
+  execute_when_tabled : (p : Option Write) (q : Request) → Tabled fixed (execute_when p fixed block q)
   unfolding execute_when
-  execute_when_tabled NoWrite q = not_executed_tabled _
-  execute_when_tabled (Waits w) q =
+  execute_when_tabled None q = not_executed_tabled _
+  execute_when_tabled (Some w) q =
       by_cond (Tabled fixed) (is_of w.master (master_of q.address))
       (λ e. executes_tabled w.ordinal.0 w.bias q.body)
       (λ e. not_executed_tabled _)
 
-  execute_tabled : (p : Pending) (q : Request) → Tabled fixed (execute_of p fixed block q)
+  execute_tabled : (p : Option Write) (q : Request) → Tabled fixed (execute_of p fixed block q)
   unfolding execute_of
   execute_tabled p q =
       by_cond (Tabled fixed) (within 1 most_asked (length q.body)) (λ e. execute_when_tabled p q) (λ e. not_executed_tabled _)
 
 -- so an EXECUTE leaves plans and tables, or makes the plans anew
 module _ (table : List ℕ) (a : Areas) where
-  pub execute_replans : (p : Pending) (q : Request)
+  pub execute_replans : (p : Option Write) (q : Request)
       → let r = execute_of p a.fixed a.block q in
       Replans table a
       (record {

@@ -1,6 +1,7 @@
 -- Cases 1 to 12 of document 01's bench cases, and pairs: a table of each, and one statement that the definitions make of each case what
 -- its table tells.
 -- Assumes nothing.
+use Rattle.std.specs.Prelude.{None, Option, Some}
 use mathlib.Core.Path.{◌≡◌, refl}
 use Prim.Native.Nat.{ℕ, zero, suc}
 use mathlib.Core.List.{List, [], ◌∷◌, ◌++◌}
@@ -94,8 +95,7 @@ use Rattle.model.specs.Step.{
 use Rattle.model.specs.Port.{mark_number, port_status, sent_chars, mark_after, silent_after, port_heard, port_after}
 use Rattle.model.specs.Run.{short, turned_away, shows, moves, decided, result_of, next_of, after_from, after}
 use Rattle.model.specs.Bench.{bench_config, hears}
-use Rattle.model.specs.declared.Action.{Action}
-use Rattle.model.specs.declared.Action.TheVariants.{Rest, Operate}
+use Rattle.model.specs.declared.Operation.{Operation}
 
 -- ---- the units and events of the cases
 
@@ -157,9 +157,9 @@ clock_of es =
     let k = (after bench_config es).inner.core.clock in
     k.day ∷ k.hour ∷ k.minute ∷ k.second ∷ k.ms ∷ []
 
-unfoldable pub acted : Action → List ℕ
-acted Rest = []
-acted (Operate o close) = o.0 ∷ cond close 1 0 ∷ []
+unfoldable pub acted : Option Operation → List ℕ
+acted None = []
+acted (Some o) = o.output.0 ∷ cond o.close 1 0 ∷ []
 
 -- the number that the event e is answered with after the events es, and the output action
 unfoldable pub outcome_of : Config → List Event → Event → List ℕ

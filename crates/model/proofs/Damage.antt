@@ -1,4 +1,5 @@
 -- Demand 3, damage: a damaged frame or pair gets no reply and leaves all but the port as it was, so every later entry is alike. Assumes nothing.
+use Rattle.std.specs.Prelude.{None}
 use Prim.Native.Nat.{ℕ, zero, suc, ◌+◌, ◌-◌, ◌<◌, ◌≤◌}
 use mathlib.Core.Path.{◌≡◌, refl, sym, ap, ◌∙◌}
 use mathlib.Core.Logic.{◌⊎◌, inl, inr}
@@ -28,7 +29,6 @@ use Rattle.model.specs.Laws.{WriteAnswered}
 use Rattle.model.specs.declared.Outcome.{Outcome}
 use Rattle.model.specs.declared.Outcome.TheVariants.{NotWhole, CheckWrong, NotConfigured, BufferShort}
 use Rattle.model.specs.declared.Answer.TheVariants.{Ended}
-use Rattle.model.specs.declared.Action.TheVariants.{Rest}
 use Rattle.model.specs.declared.Mark.{Mark}
 use Rattle.model.specs.declared.Frame.{Frame}
 use Rattle.model.specs.declared.Heard.TheVariants.{Broken, Wrong, Whole}
@@ -50,7 +50,7 @@ good_sent q h =
 -- what a working unit makes of it
 record Unmoved (i : Inner) (m : Made) : Type 0 where
   answer : (m.answer ≡ Ended NotWhole) ⊎ (m.answer ≡ Ended CheckWrong)
-  action : m.action ≡ Rest
+  action : m.action ≡ None
   sent : m.sent ≡ silent
   inner : m.inner ≡ i
 
@@ -192,18 +192,18 @@ module _ (c : Config) (s : State) (t : Stretch) (d : Damaged t.chars) where
       (λ b. record { inner = (unmoved c s.inner t d).inner; left = port-fits s.port (stretch t) _ h; right = h })
 
   -- however it ends, nothing is sent and nothing operates
-  away_silent : (o : Outcome) → result_of c s (stretch t) ≡ turned_away o → ((result_of c s (stretch t)).reply ≡ []) × ((result_of c s (stretch t)).action ≡ Rest)
+  away_silent : (o : Outcome) → result_of c s (stretch t) ≡ turned_away o → ((result_of c s (stretch t)).reply ≡ []) × ((result_of c s (stretch t)).action ≡ None)
   unfolding turned_away
   away_silent o e = (ap (λ (r : Result). r.reply) e, ap (λ (r : Result). r.action) e)
 
   made_silent : result_of c s (stretch t) ≡ shows s.port (make_of c s.inner (stretch t))
-      → ((result_of c s (stretch t)).reply ≡ []) × ((result_of c s (stretch t)).action ≡ Rest)
+      → ((result_of c s (stretch t)).reply ≡ []) × ((result_of c s (stretch t)).action ≡ None)
   unfolding shows sent_chars
   made_silent e =
       let u = unmoved c s.inner t d in
       (ap (λ (r : Result). r.reply) e ∙ ap (sent_chars s.port.mark) u.sent, ap (λ (r : Result). r.action) e ∙ u.action)
 
-  damaged-silent : ((result_of c s (stretch t)).reply ≡ []) × ((result_of c s (stretch t)).action ≡ Rest)
+  damaged-silent : ((result_of c s (stretch t)).reply ≡ []) × ((result_of c s (stretch t)).action ≡ None)
   damaged-silent =
       let e : Event = stretch t in
       by_bool (short e) (λ a. away_silent BufferShort (short_away c s e a).0)

@@ -10,6 +10,8 @@ pub mod PairLaws
 pub mod PlanLaws
 pub mod Planned
 pub mod Ages
+pub mod Numbered
+pub mod Functions
 pub mod Cases
 pub mod Runs
 pub mod Parts

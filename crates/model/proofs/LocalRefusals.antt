@@ -1,4 +1,5 @@
 -- What a refused local event leaves: all, but that a full file sets bit 3. Assumes nothing.
+use Rattle.std.specs.Prelude.{None}
 use Prim.Native.Nat.{ℕ, ◌/◌, ◌≤◌}
 use mathlib.Core.Path.{◌≡◌, refl, sym, ◌∙◌}
 use mathlib.Core.List.{List}
@@ -20,7 +21,6 @@ use Rattle.model.specs.Port.{port_after}
 use Rattle.model.specs.Refusal.{arrives, succeeded, was_full, refused_local, RefusedLocally}
 use Rattle.model.specs.declared.Stored.{Stored}
 use Rattle.model.specs.declared.Stored.TheVariants.{Kept, Swapped, Full, NotEquipped, WrongValues}
-use Rattle.model.specs.declared.Action.TheVariants.{Rest}
 use Rattle.model.specs.declared.Contact.{Contact}
 use Rattle.model.specs.declared.Input.{Input}
 use Rattle.model.specs.declared.SpecialCalculation.{SpecialCalculation}
@@ -36,7 +36,7 @@ module _ {A : Type 0} {i : Inner} {e : Event} {w : A → Made} {r : A} where
   succeeds : succeeded (w r).answer ≡ true → Meets i e w r
   succeeds d = record { refuses = λ n. absurd (true≢false (sym d ∙ n)) }
 
-  fails : (w r).inner ≡ refused_local (w r).answer i → (w r).action ≡ Rest → (w r).sent ≡ silent
+  fails : (w r).inner ≡ refused_local (w r).answer i → (w r).action ≡ None → (w r).sent ≡ silent
       → ((p : Port) → port_after p e (w r).answer ≡ p) → answer_number (w r).answer ≤ 16 → Meets i e w r
   fails a b d f g = record { refuses = λ n. record { inner = a; action = b; sent = d; port = f; row = g } }
 

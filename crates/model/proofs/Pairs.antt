@@ -1,4 +1,5 @@
 -- A pair in the step: what its WRITE leaves where it is taken, and what the two come to. Assumes nothing.
+use Rattle.std.specs.Prelude.{None, Option, Some}
 use mathlib.Core.Path.{◌≡◌, refl, sym, ap, ◌∙◌}
 use Prim.Native.Nat.{ℕ}
 use native.Mathlib.Omega.{arith}
@@ -25,11 +26,8 @@ use Rattle.model.specs.declared.Outcome.TheVariants.{WriteTaken}
 use Rattle.model.specs.declared.Sending.{Sending}
 use Rattle.model.specs.declared.Sending.TheVariants.{Normal, Nop, Rst, Unanswered}
 use Rattle.model.specs.declared.Answer.TheVariants.{Ended}
-use Rattle.model.specs.declared.Action.TheVariants.{Rest}
 use Rattle.model.specs.declared.Master.{Master}
 use Rattle.model.specs.declared.Write.{Write}
-use Rattle.model.specs.declared.Pending.{Pending}
-use Rattle.model.specs.declared.Pending.TheVariants.{NoWrite, Waits}
 use Rattle.model.specs.declared.Frame.{Frame}
 use Rattle.model.specs.declared.Heard.TheVariants.{Pair}
 use Rattle.model.proofs.Conditions.{by_cond, by_bool, false-true}
@@ -40,13 +38,13 @@ use Rattle.model.proofs.PairLaws.{pair_front}
 -- a WRITE of master a was taken: it waits, no other write did, and all else is as it was
 pub record Taken (i : Inner) (a : Master) (m : Made) : Type 0 where
   pub answer : m.answer ≡ Ended WriteTaken
-  pub action : m.action ≡ Rest
+  pub action : m.action ≡ None
   pub sent : m.sent ≡ silent
   pub change : m.change ≡ stays
   pub write : Write
   pub owner : is_of write.master a ≡ true
-  pub earlier : dropped i.core.write a ≡ NoWrite
-  pub inner : m.inner ≡ record { core = with_write i.core (Waits write); areas = i.areas; history = i.history }
+  pub earlier : dropped i.core.write a ≡ None
+  pub inner : m.inner ≡ record { core = with_write i.core (Some write); areas = i.areas; history = i.history }
 
 module _ (c : Config) (i : Inner) (lag : ℕ) (w : Request) (f : w.function ≡ 0x20) (k : w.command ≡ 0x30) where
   abbrev by : Master
@@ -78,17 +76,17 @@ module _ (c : Config) (i : Inner) (lag : ℕ) (w : Request) (f : w.function ≡ 
       (eqb (number_of p.says.outcome) 0) (λ e. not_taken _ _ (λ n. omega arith)) (λ e. not_taken _ _ (λ n. omega arith))
 
   module _ (own : unit_of w.address ≡ c.unit) where
-    waits-takes : (bias o : ℕ) → dropped i.core.write by ≡ NoWrite → Takes (ends (wrote (waits_for by bias o)))
-    unfolding Takes waits_for written alone finished settled answered sent_as changed_by applied dropped_after is_of areas_left
+    waits-takes : (bias o : ℕ) → dropped i.core.write by ≡ None → Takes (ends (wrote (waits_for by bias o)))
+    unfolding Takes waits_for written alone finished settled answered sent_as changed_by applied dropped_after areas_left
     waits-takes bias o d n = (
       own,
       record { answer = refl; action = refl; sent = refl; change = refl; write = record { master = by; bias = bias; ordinal = record { 0 = o }; age = 0 }; owner = eq-eqb by.0 by.0 refl; earlier = d; inner = refl },
     )
 
-    when_takes : (p : Pending) (bias o : ℕ) → dropped p by ≡ dropped i.core.write by → Takes (ends (wrote (write_when p by bias o)))
+    when_takes : (p : Option Write) (bias o : ℕ) → dropped p by ≡ dropped i.core.write by → Takes (ends (wrote (write_when p by bias o)))
     unfolding write_when dropped
-    when_takes NoWrite bias o e = waits-takes bias o (sym e)
-    when_takes (Waits p) bias o e =
+    when_takes None bias o e = waits-takes bias o (sym e)
+    when_takes (Some p) bias o e =
         by_cond {A = WriteResult} (λ r. Takes (ends (wrote r))) (is_of p.master by) (λ b. waits-takes bias o (sym e ∙ rw b))
         (λ b. unfold Takes written alone finished in λ n. absurd (omega arith))
 
@@ -110,10 +108,10 @@ module _ (c : Config) (i : Inner) (lag : ℕ) (w : Request) (f : w.function ≡ 
       (λ e. by_cond Takes (eqb (unit_of w.address) broadcast_unit) (λ e. broadcast_takes _) (λ e. not_taken _ _ (λ n. omega arith)))
 
   -- with its three characters it ends as a WRITE may
-  when_ends : (p : Pending) (m : Master) (bias o : ℕ) → WriteEnds (write_when p m bias o).says.outcome
+  when_ends : (p : Option Write) (m : Master) (bias o : ℕ) → WriteEnds (write_when p m bias o).says.outcome
   unfolding write_when waits_for
-  when_ends NoWrite m bias o = taken
-  when_ends (Waits p) m bias o = by_cond {A = WriteResult} (λ r. WriteEnds r.says.outcome) (is_of p.master m) (λ e. taken) (λ e. held)
+  when_ends None m bias o = taken
+  when_ends (Some p) m bias o = by_cond {A = WriteResult} (λ r. WriteEnds r.says.outcome) (is_of p.master m) (λ e. taken) (λ e. held)
 
   pub write-ends : counts 3 w ≡ true → WriteEnds (step_of c i lag w).step.says.outcome
   unfolding write_of
@@ -131,7 +129,7 @@ module _ (c : Config) (i : Inner) (lag : ℕ) (x : Request) (f : x.function ≡ 
   Ends m = PairEnds m.step.says.outcome
 
   -- of a write of its own master that waits
-  pub execute-ends : (w : Write) → i.core.write ≡ Waits w → is_of w.master (master_of x.address) ≡ true → Ends (step_of c i lag x)
+  pub execute-ends : (w : Write) → i.core.write ≡ Some w → is_of w.master (master_of x.address) ≡ true → Ends (step_of c i lag x)
   unfolding step_of internal_step internal_of execute_of execute_when executes not_executed executed broken_off scanned alone
   execute-ends w e own =
       let P : Executed → Type 0 = λ r. Ends (did r) in
@@ -150,10 +148,10 @@ ends-said Nop u r e = cc
 ends-said Rst u r e = cc
 ends-said Unanswered u r e = let z : ◌≡◌ {A = ℕ} 0 1 = cc in absurd (omega arith)
 
-dropped_twice : (p : Pending) (a : Master) → dropped (dropped p a) a ≡ dropped p a
+dropped_twice : (p : Option Write) (a : Master) → dropped (dropped p a) a ≡ dropped p a
 unfolding dropped
-dropped_twice NoWrite a = refl
-dropped_twice (Waits w) a = by_bool (is_of w.master a) (λ e. rw e) (λ e. rw (e, e))
+dropped_twice None a = refl
+dropped_twice (Some w) a = by_bool (is_of w.master a) (λ e. rw e) (λ e. rw (e, e))
 
 -- none of them is a WRITE taken
 ends-other : {o : Outcome} → PairEnds o → eqb (number_of o) 5 ≡ false
@@ -225,7 +223,7 @@ module _ (c : Config) (i : Inner) (lag : ℕ) (s : List ℕ) (w x : Frame) (p : 
         rw z (made_pair c i i asks _ refl (refused-ends seam-ends (rw z at e)))
 
     executed_made : (j : Inner) (v : Write) → is_of v.master (master_of w.address) ≡ true
-        → j ≡ record { core = with_write i.core (Waits v); areas = i.areas; history = i.history }
+        → j ≡ record { core = with_write i.core (Some v); areas = i.areas; history = i.history }
         → PairMade i (master_of w.address) (framed c j lag gives)
     unfolding request_in status_of
     executed_made j v o e =

@@ -36,11 +36,8 @@ use Rattle.model.specs.declared.Select.{Select}
 use Rattle.model.specs.declared.Hold.{Hold}
 use Rattle.model.specs.declared.Hold.TheVariants.{Free, Held, TimedOut}
 use Rattle.model.specs.declared.Write.{Write}
-use Rattle.model.specs.declared.Pending.{Pending}
-use Rattle.model.specs.declared.Pending.TheVariants.{NoWrite, Waits}
+use Rattle.std.specs.Prelude.{None, Option, Some}
 use Rattle.model.specs.declared.HistoryReply.{HistoryReply}
-use Rattle.model.specs.declared.Memory.{Memory}
-use Rattle.model.specs.declared.Memory.TheVariants.{Nothing, Remembered}
 use Rattle.model.proofs.Conditions.{by_cond, and_left, and_right, and_both, every-up_from, up_from-every}
 use Rattle.model.proofs.FileLaws.{held-stored, store_grows, cut_shrinks, told_after, new_told, length_swap}
 
@@ -147,11 +144,11 @@ module _ (c : Config) where
 WriteFits : WriteResult → Type 0
 WriteFits r = write_fits r.write ≡ true
 
-waits-fits : (w : Write) → master_fits w.master ≡ true → w.age ≤ hold_time → write_fits (Waits w) ≡ true
+waits-fits : (w : Write) → master_fits w.master ≡ true → w.age ≤ hold_time → write_fits (Some w) ≡ true
 unfolding write_fits
 waits-fits w g a = and_both g (le-leb _ _ a)
 
-waits-master : (w : Write) → write_fits (Waits w) ≡ true → master_fits w.master ≡ true
+waits-master : (w : Write) → write_fits (Some w) ≡ true → master_fits w.master ≡ true
 unfolding write_fits
 waits-master w h = and_left (master_fits w.master) _ h
 
@@ -159,20 +156,20 @@ waits_for-fits : (m : Master) (bias o : ℕ) → master_fits m ≡ true → Writ
 unfolding WriteFits waits_for
 waits_for-fits m bias o g = waits-fits _ g (omega arith)
 
-write_when-fits : (w : Pending) (m : Master) (bias o : ℕ) → master_fits m ≡ true → write_fits w ≡ true → WriteFits (write_when w m bias o)
+write_when-fits : (w : Option Write) (m : Master) (bias o : ℕ) → master_fits m ≡ true → write_fits w ≡ true → WriteFits (write_when w m bias o)
 unfolding write_when
-write_when-fits NoWrite m bias o g h = waits_for-fits m bias o g
-write_when-fits (Waits w) m bias o g h =
+write_when-fits None m bias o g h = waits_for-fits m bias o g
+write_when-fits (Some w) m bias o g h =
     by_cond WriteFits (is_of w.master m) (λ e. waits_for-fits m bias o g) (λ e. unfold WriteFits in h)
 
-pub write-fits : (w : Pending) (q : Request) → master_fits (master_of q.address) ≡ true → write_fits w ≡ true → write_fits (write_of w q).write ≡ true
+pub write-fits : (w : Option Write) (q : Request) → master_fits (master_of q.address) ≡ true → write_fits w ≡ true → write_fits (write_of w q).write ≡ true
 unfolding WriteFits write_of
 write-fits w q g h = by_cond WriteFits (counts 3 q) (λ e. write_when-fits w _ _ _ g h) (λ e. h)
 
-pub waits_after-fits : (w : Pending) (ms : ℕ) → write_fits w ≡ true → write_fits (waits_after w ms) ≡ true
+pub waits_after-fits : (w : Option Write) (ms : ℕ) → write_fits w ≡ true → write_fits (waits_after w ms) ≡ true
 unfolding waits_after
-waits_after-fits NoWrite ms h = h
-waits_after-fits (Waits w) ms h =
+waits_after-fits None ms h = h
+waits_after-fits (Some w) ms h =
     by_cond (λ x. write_fits x ≡ true) (leb (w.age + ms) hold_time)
     (λ e. waits-fits _ (waits-master w h) (omega (arith, leb-true (w.age + ms) hold_time e)))
     (λ e. unfold write_fits in refl)
@@ -192,7 +189,7 @@ module _ (c : Config) where
   unfolding history_fits
   history-memory h e = and_right (every (file_fits c h.files) (up_from 0 32)) _ e
 
-  pub history-fits : (m : Memory) (fs : Files) (ns : List ℕ) → FilesFit c fs → memory_fits c fs m ≡ true → history_fits c (record { memory = m; files = fs; dropped = ns }) ≡ true
+  pub history-fits : (m : Option HistoryReply) (fs : Files) (ns : List ℕ) → FilesFit c fs → memory_fits c fs m ≡ true → history_fits c (record { memory = m; files = fs; dropped = ns }) ≡ true
   unfolding history_fits FilesFit
   history-fits m fs ns e g = and_both (up_from-every (file_fits c fs) 0 32 (λ f low high. let k : f < 32 = omega arith in e f k)) g
 
@@ -201,10 +198,10 @@ module _ (c : Config) where
   unfolding FilesFit file_fits
   fewer_fit fs gs less e f k = omega (arith, le-leb, leb-true, e f k, less f)
 
-  freed_fit : (m : Memory) (fs : Files) (p : Master) → FilesFit c fs → FilesFit c (applied (freed_for m p) fs)
+  freed_fit : (m : Option HistoryReply) (fs : Files) (p : Master) → FilesFit c fs → FilesFit c (applied (freed_for m p) fs)
   unfolding freed_for applied
-  freed_fit Nothing fs p e = e
-  freed_fit (Remembered t) fs p e =
+  freed_fit None fs p e = e
+  freed_fit (Some t) fs p e =
       by_cond (λ ch. FilesFit c (applied ch fs)) (is_of t.master p) (λ b. fewer_fit fs _ (λ f. cut_shrinks fs t.file.0 f 0 t.quantity) e) (λ b. e)
 
   -- ---- a new reply, and one that is remembered while its file grows
@@ -214,10 +211,10 @@ module _ (c : Config) where
   grown_givable most held now n true h e = and_both (and_left (eqb n most) _ e) (omega (arith, lt-ltb, ltb-true n held (and_right (eqb n most) _ e)))
   grown_givable most held now n false h e = and_both (and_left (leb n most) _ e) (omega (arith, le-leb, leb-true n held (and_right (leb n most) _ e)))
 
-  grown_fits : (m : Memory) (fs gs : Files) → ((f : ℕ) → length (held_in fs f) ≤ length (held_in gs f)) → memory_fits c fs m ≡ true → memory_fits c gs m ≡ true
+  grown_fits : (m : Option HistoryReply) (fs gs : Files) → ((f : ℕ) → length (held_in fs f) ≤ length (held_in gs f)) → memory_fits c fs m ≡ true → memory_fits c gs m ≡ true
   unfolding memory_fits reply_fits
-  grown_fits Nothing fs gs more e = refl
-  grown_fits (Remembered t) fs gs more e =
+  grown_fits None fs gs more e = refl
+  grown_fits (Some t) fs gs more e =
       let r = and_right (master_fits t.master) _ e in
       and_both (and_left (master_fits t.master) _ e)
       (and_both (and_left (has_file c.files t.file.0) _ r)
@@ -234,7 +231,7 @@ module _ (c : Config) where
   reply-fits : (fs : Files) (t : HistoryReply) → master_fits t.master ≡ true → has_file c.files t.file.0 ≡ true
       → t.quantity ≡ min (length (held_in fs t.file.0)) (most_of c.values t.file.0 t.dump)
       → ltb (min (length (held_in fs t.file.0)) (most_of c.values t.file.0 t.dump)) (length (held_in fs t.file.0)) ≡ t.more
-      → memory_fits c fs (Remembered t) ≡ true
+      → memory_fits c fs (Some t) ≡ true
   unfolding memory_fits reply_fits
   reply-fits fs t g k n m = and_both g (and_both k (new_givable _ _ t.quantity t.more n m))
 
@@ -246,9 +243,9 @@ module _ (c : Config) where
       let fs = applied ch h.files in
       history-fits (told_from c.values ch fs q).memory fs _ (freed_fit h.memory h.files _ (history-files h e)) (reply-fits fs _ g k (omega arith) refl)
 
-  pub forgotten_fits : (h : History) → history_fits c h ≡ true → history_fits c (changed_by stays Nothing h) ≡ true
+  pub forgotten_fits : (h : History) → history_fits c h ≡ true → history_fits c (changed_by stays None h) ≡ true
   unfolding changed_by applied dropped_after memory_fits
-  forgotten_fits h e = history-fits Nothing h.files _ (history-files h e) refl
+  forgotten_fits h e = history-fits None h.files _ (history-files h e) refl
 
   -- ---- a record that is kept
 

@@ -34,10 +34,9 @@ use Rattle.model.specs.declared.Record.{Record}
 use Rattle.model.specs.declared.Clock.{Clock}
 use Rattle.model.specs.declared.Hold.{Hold}
 use Rattle.model.specs.declared.Hold.TheVariants.{Free}
-use Rattle.model.specs.declared.Pending.{Pending}
-use Rattle.model.specs.declared.Pending.TheVariants.{NoWrite, Waits}
-use Rattle.model.specs.declared.Memory.{Memory}
-use Rattle.model.specs.declared.Memory.TheVariants.{Nothing, Remembered}
+use Rattle.std.specs.Prelude.{None, Option, Some}
+use Rattle.model.specs.declared.Write.{Write}
+use Rattle.model.specs.declared.HistoryReply.{HistoryReply}
 use Rattle.model.specs.declared.Core.{Core}
 use Rattle.model.proofs.Conditions.{by_cond}
 use Rattle.model.proofs.PairLaws.{by_heard, pair-address}
@@ -51,7 +50,7 @@ use Rattle.model.proofs.AreaLaws.{LeavesValues, Replans, stay, execute_replans, 
 pub record Parts : Type 1 where
   pub clock : Clock → Type 0
   pub hold : Hold → Type 0
-  pub write : Pending → Type 0
+  pub write : Option Write → Type 0
   pub areas : Areas → Type 0
   pub history : History → Type 0
   pub request : Request → Type 0
@@ -83,15 +82,15 @@ pub record Lasts (c : Config) (p : Parts) : Type 0 where
   pub free : p.hold Free
   pub control : (h : Hold) (q : Request) → p.request q → p.hold h → p.hold (control_of c.outputs h q).hold
   pub held_after : (h : Hold) (ms : ℕ) → p.hold h → p.hold (held_after h ms)
-  pub no_write : p.write NoWrite
-  pub write : (w : Pending) (q : Request) → p.request q → p.write w → p.write (write_of w q).write
-  pub waits-after : (w : Pending) (ms : ℕ) → p.write w → p.write (waits_after w ms)
+  pub no_write : p.write None
+  pub write : (w : Option Write) (q : Request) → p.request q → p.write w → p.write (write_of w q).write
+  pub waits-after : (w : Option Write) (ms : ℕ) → p.write w → p.write (waits_after w ms)
   pub leaves : (a b : Areas) → LeavesValues a b → Replans c.inputs a b → p.areas a → p.areas b
   pub valued : (a : Areas) (n : SpecialCalculation) (v : ℕ) → p.event (local (set_value n v)) → value_settable c n.0 ≡ true → p.areas a → p.areas (with_values a (set a.values n.0 v))
   pub sampled : (a : Areas) (n : SpecialCalculation) → p.event (local (sample n)) → is_mean c n.0 ≡ true → p.areas a → p.areas (areas_sampled c a n.0)
   pub told : (h : History) (q : Request) → p.request q → has_file c.files (file_of q) ≡ true → p.history h
       → p.history (told_after h (new_told c h q))
-  pub forgotten : (h : History) → p.history h → p.history (changed_by stays Nothing h)
+  pub forgotten : (h : History) → p.history h → p.history (changed_by stays None h)
   pub kept : (h : History) (f : ℕ) (r : Record) (vs : List ℕ) → stored_as c h f vs ≡ Kept → p.history h
       → p.history (changed_by (adds f (record_chars r vs)) h.memory h)
   pub swapped : (h : History) (f : ℕ) (r : Record) (vs : List ℕ) → stored_as c h f vs ≡ Swapped → p.history h
@@ -101,10 +100,10 @@ Makes : Parts → Made → Type 0
 Makes p m = InnerHas p m.inner
 
 module _ (c : Config) (p : Parts) (l : Lasts c p) where
-  dropped-has : (w : Pending) (m : Master) → p.write w → p.write (dropped w m)
+  dropped-has : (w : Option Write) (m : Master) → p.write w → p.write (dropped w m)
   unfolding dropped
-  dropped-has NoWrite m h = h
-  dropped-has (Waits w) m h = by_cond p.write (is_of w.master m) (λ e. l.no_write) (λ e. h)
+  dropped-has None m h = h
+  dropped-has (Some w) m h = by_cond p.write (is_of w.master m) (λ e. l.no_write) (λ e. h)
 
   settled-has : (q : Request) (o : Outcome) (k : Core) → CoreHas p k → CoreHas p (settled q o k)
   unfolding settled
@@ -214,11 +213,11 @@ module _ (c : Config) (p : Parts) (l : Lasts c p) where
     broken_off-has = record { core = record { clock = h.core.clock; hold = l.free; write = h.core.write }; areas = h.areas }
 
     -- sending again, and a refusal, change nothing
-    again-has : (w : Memory) (q : Request) → p.history (record { memory = w; files = i.history.files; dropped = i.history.dropped })
+    again-has : (w : Option HistoryReply) (q : Request) → p.history (record { memory = w; files = i.history.files; dropped = i.history.dropped })
         → p.history (told_after i.history (again_when w i.history.files q))
     unfolding again_when untold changed_by applied dropped_after
-    again-has Nothing q k = k
-    again-has (Remembered t) q k = by_cond {A = Told} (λ x. p.history (told_after i.history x)) (agrees t q) (λ e. k) (λ e. k)
+    again-has None q k = k
+    again-has (Some t) q k = by_cond {A = Told} (λ x. p.history (told_after i.history x)) (agrees t q) (λ e. k) (λ e. k)
 
     history-has : (q : Request) → p.request q → p.history (told_after i.history (history_of c.files c.values i.history q))
     unfolding history_of tell_of untold changed_by applied dropped_after

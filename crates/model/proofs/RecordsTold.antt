@@ -17,8 +17,7 @@ use Rattle.model.specs.Demand3.{remembered_as}
 use Rattle.model.specs.Believe.{records_told}
 use Rattle.model.specs.declared.Master.{Master}
 use Rattle.model.specs.declared.HistoryReply.{HistoryReply}
-use Rattle.model.specs.declared.Memory.{Memory}
-use Rattle.model.specs.declared.Memory.TheVariants.{Nothing, Remembered}
+use Rattle.std.specs.Prelude.{None, Option, Some}
 use Rattle.model.proofs.PartFits.{history-files, history-memory}
 use Rattle.model.proofs.Valid.{run_fits}
 use Rattle.model.proofs.Shape.{run_formed}
@@ -39,7 +38,7 @@ latest-more c es e =
     ap (latest_from c nobody) (trace_append c (fresh_of c) es (e ∷ [])) ∙ (latest_append c nobody (trace c es) (trace_from c (after c es) (e ∷ [])) ∙ (unfold trace_from latest_from in refl))
 
 -- a reply that is remembered is the one that was given
-same_data : {m : Master} {f : ℕ} {ys : List ℕ} {rs : List (List ℕ)} (t : HistoryReply) (fs : Files) → gave m f ys rs ≡ remembered_as (Remembered t) fs
+same_data : {m : Master} {f : ℕ} {ys : List ℕ} {rs : List (List ℕ)} (t : HistoryReply) (fs : Files) → gave m f ys rs ≡ remembered_as (Some t) fs
     → (ys ≡ history_chars t.quantity t.more (held_in fs t.file.0)) × (rs ≡ take t.quantity (held_in fs t.file.0))
 same_data t fs e = (cc, (cc))
 
@@ -48,13 +47,13 @@ module _ (c : Config) (valid : valid_of c ≡ true) (es : List Event) (all : All
   fs = (after c es).inner.history.files
 
   -- what the unit remembers at any time is read as the records that the line showed
-  given-records : (w : Memory) → (after c es).inner.history.memory ≡ w → {m : Master} {f : ℕ} {ys : List ℕ} {rs : List (List ℕ)} → gave m f ys rs ≡ remembered_as w fs
+  given-records : (w : Option HistoryReply) → (after c es).inner.history.memory ≡ w → {m : Master} {f : ℕ} {ys : List ℕ} {rs : List (List ℕ)} → gave m f ys rs ≡ remembered_as w fs
       → records_told ys ≡ rs
-  given-records Nothing k e = let z : ◌≡◌ {A = ℕ} 0 1 = cc in absurd (omega arith)
-  given-records (Remembered t) k e =
+  given-records None k e = let z : ◌≡◌ {A = ℕ} 0 1 = cc in absurd (omega arith)
+  given-records (Some t) k e =
       let h = (after c es).inner.history in
       let ok = fitting-history c (after c es) (run_fits c es valid all) in
-      let r : reply_fits c fs t ≡ true = (unfold memory_fits in subst (λ (w : Memory). memory_fits c fs w ≡ true) k (history-memory c h ok)) in
+      let r : reply_fits c fs t ≡ true = (unfold memory_fits in subst (λ (w : Option HistoryReply). memory_fits c fs w ≡ true) k (history-memory c h ok)) in
       let f = t.file.0 in
       let room = file-room c fs (history-files c h ok) f (reply-file c fs t r) in
       let d = same_data t fs e in

@@ -1,4 +1,5 @@
 -- Every refusal changes what its outcome says and nothing else: of a stretch, and of a local event. Assumes nothing.
+use Rattle.std.specs.Prelude.{None}
 use mathlib.Core.Path.{◌≡◌, refl, sym, ap, ◌∙◌}
 use mathlib.Core.Bool.{false}
 use lib.Dec.{leb}
@@ -16,7 +17,6 @@ use Rattle.model.specs.Refusal.{refused_state, Refused, arrives, succeeded, was_
 use Rattle.model.specs.declared.Outcome.{Outcome}
 use Rattle.model.specs.declared.Outcome.TheVariants.{NotConfigured, BufferShort}
 use Rattle.model.specs.declared.Answer.TheVariants.{Ended}
-use Rattle.model.specs.declared.Action.TheVariants.{Rest}
 use Rattle.model.proofs.Conditions.{by_bool}
 use Rattle.model.proofs.RefusedStretch.{judged_meets}
 use Rattle.model.proofs.LocalRefusals.{local_meets}
@@ -39,7 +39,7 @@ refusal_local c i e a = (local_meets c i e a).refuses
 
 module _ (c : Config) (s : State) (t : Stretch) (o : Outcome) (a : (result_of c s (stretch t)).answer ≡ Ended o) where
   next_away : (x : Outcome) → leb (number_of x) 16 ≡ false → (result_of c s (stretch t) ≡ turned_away x) × (next_of c s (stretch t) ≡ s)
-      → (next_of c s (stretch t) ≡ refused_state t.chars o s) × ((result_of c s (stretch t)).action ≡ Rest)
+      → (next_of c s (stretch t) ≡ refused_state t.chars o s) × ((result_of c s (stretch t)).action ≡ None)
   unfolding turned_away refused_state
   next_away x h r =
       let f : Ended x ≡ Ended o = sym (ap (λ (y : Result). y.answer) r.0) ∙ a in
@@ -49,7 +49,7 @@ module _ (c : Config) (s : State) (t : Stretch) (o : Outcome) (a : (result_of c 
 
   next_made : carried_out o ≡ false
       → (result_of c s (stretch t) ≡ shows s.port (make_of c s.inner (stretch t))) × (next_of c s (stretch t) ≡ moves s.port (stretch t) (make_of c s.inner (stretch t)))
-      → (next_of c s (stretch t) ≡ refused_state t.chars o s) × ((result_of c s (stretch t)).action ≡ Rest)
+      → (next_of c s (stretch t) ≡ refused_state t.chars o s) × ((result_of c s (stretch t)).action ≡ None)
   unfolding shows moves port_after refused_state
   next_made n r =
       let f : (make_of c s.inner (stretch t)).answer ≡ Ended o = sym (ap (λ (y : Result). y.answer) r.0) ∙ a in
@@ -57,7 +57,7 @@ module _ (c : Config) (s : State) (t : Stretch) (o : Outcome) (a : (result_of c 
       (r.1 ∙ rw (le-leb (number_of o) 16 w.row, f, w.inner), ap (λ (y : Result). y.action) r.0 ∙ w.action)
 
   -- a stretch refused by o, with 17 and 18 too: the state after it, port and all, is what o makes of the state before it
-  pub refusal_next : carried_out o ≡ false → (next_of c s (stretch t) ≡ refused_state t.chars o s) × ((result_of c s (stretch t)).action ≡ Rest)
+  pub refusal_next : carried_out o ≡ false → (next_of c s (stretch t) ≡ refused_state t.chars o s) × ((result_of c s (stretch t)).action ≡ None)
   refusal_next n =
       let e : Event = stretch t in
       by_bool (short e) (λ b. next_away BufferShort refl (short_away c s e b))

@@ -27,12 +27,11 @@ use Rattle.model.specs.declared.Sending.{Sending}
 use Rattle.model.specs.declared.Sending.TheVariants.{Normal, Nop, Rst, Unanswered}
 use Rattle.model.specs.declared.Answer.TheVariants.{Ended}
 use Rattle.model.specs.declared.Core.{Core}
-use Rattle.model.specs.declared.Memory.{Memory}
-use Rattle.model.specs.declared.Memory.TheVariants.{Nothing, Remembered}
+use Rattle.std.specs.Prelude.{None, Option, Some}
+use Rattle.model.specs.declared.HistoryReply.{HistoryReply}
 use Rattle.model.specs.declared.Frame.{Frame}
 use Rattle.model.specs.declared.Heard.TheVariants.{Pair}
 use Rattle.model.specs.declared.Write.{Write}
-use Rattle.model.specs.declared.Pending.TheVariants.{NoWrite, Waits}
 use Rattle.model.proofs.Conditions.{by_cond, by_bool, and_left, and_right, or_left}
 use Rattle.model.proofs.PairLaws.{by_heard, pair-address}
 use Rattle.model.proofs.Pairs.{by_pair, pair_made}
@@ -123,10 +122,10 @@ module _ (i : Inner) (q : Request) where
   unfolding telling untold alone
   untold_meets o h = alone_meets _ h
 
-  again_meets : (w : Memory) → i.history.memory ≡ w → Meets q i (finished i q) (telling i (again_when w i.history.files q))
+  again_meets : (w : Option HistoryReply) → i.history.memory ≡ w → Meets q i (finished i q) (telling i (again_when w i.history.files q))
   unfolding again_when telling scanned finished carried_out declined within refused_hold
-  again_meets Nothing k = rw (← k) (untold_meets NothingAgain (declines refl refl))
-  again_meets (Remembered t) k =
+  again_meets None k = rw (← k) (untold_meets NothingAgain (declines refl refl))
+  again_meets (Some t) k =
       by_cond {A = Told} (λ x. Meets q i (finished i q) (telling i x)) (agrees t q) (λ e. carries_out Done refl refl)
       (λ e. rw (← k) (untold_meets NothingAgain (declines refl refl)))
 
@@ -212,8 +211,8 @@ refused-alike o i q w e = rw e
 
 -- an answered refusal drops the write that the WRITE left, as it drops an earlier one
 refused-taken : (o : Outcome) (i : Inner) (q : Request) (v : Write) → declined o ≡ true → is_of v.master (master_of q.address) ≡ true
-    → dropped i.core.write (master_of q.address) ≡ NoWrite
-    → refused_inner q o (record { core = with_write i.core (Waits v); areas = i.areas; history = i.history }) ≡ refused_inner q o i
+    → dropped i.core.write (master_of q.address) ≡ None
+    → refused_inner q o (record { core = with_write i.core (Some v); areas = i.areas; history = i.history }) ≡ refused_inner q o i
 unfolding refused_inner refused_core refused_write dropped
 refused-taken o i q v d m e = rw (d, m, e)
 

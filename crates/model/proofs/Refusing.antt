@@ -1,4 +1,5 @@
 -- What each function leaves where it refuses. Assumes nothing.
+use Rattle.std.specs.Prelude.{None, Option, Some}
 use Prim.Native.Nat.{ℕ, ◌%◌, ◌≤◌}
 use native.Mathlib.Omega.{arith}
 use mathlib.Core.Path.{◌≡◌, refl, sym, ap, ◌∙◌}
@@ -27,12 +28,10 @@ use Rattle.model.specs.Step.{Step, with_hold, with_write, scanned, changed, cont
 use Rattle.model.specs.Refusal.{declined, refused_hold}
 use Rattle.model.specs.declared.Outcome.{Outcome}
 use Rattle.model.specs.declared.Outcome.TheVariants.{Unknown}
-use Rattle.model.specs.declared.Action.TheVariants.{Rest}
 use Rattle.model.specs.declared.Master.{Master}
 use Rattle.model.specs.declared.Hold.{Hold}
 use Rattle.model.specs.declared.Hold.TheVariants.{Free, Held, TimedOut}
-use Rattle.model.specs.declared.Pending.{Pending}
-use Rattle.model.specs.declared.Pending.TheVariants.{NoWrite, Waits}
+use Rattle.model.specs.declared.Write.{Write}
 use Rattle.model.specs.declared.Core.{Core}
 use Rattle.model.proofs.Conditions.{by_cond, and_left, and_right, or_left}
 
@@ -44,7 +43,7 @@ plain o = (leb 6 (number_of o) && leb (number_of o) 15) && not (eqb (number_of o
 
 -- a step that only says no
 abbrev stays : Core → Areas → Step → Step
-stays k a p = record { says = p.says; action = Rest; core = k; areas = a }
+stays k a p = record { says = p.says; action = None; core = k; areas = a }
 
 -- a step by itself
 abbrev pub itself : Step → Step
@@ -132,13 +131,13 @@ module _ (k : Core) (a : Areas) where
   unfolding executes not_executed executed
   executes-plain table o bias ys = by_cond (Plain k a (executed table k a)) (reaches a.fixed a.block o bias (length ys)) (λ e. does refl) (λ e. leaves refl refl)
 
-  execute_when_plain : (table : List ℕ) (p : Pending) (q : Request) → Plain k a (executed table k a) (execute_when p a.fixed a.block q)
+  execute_when_plain : (table : List ℕ) (p : Option Write) (q : Request) → Plain k a (executed table k a) (execute_when p a.fixed a.block q)
   unfolding execute_when not_executed executed
-  execute_when_plain table NoWrite q = leaves refl refl
-  execute_when_plain table (Waits w) q =
+  execute_when_plain table None q = leaves refl refl
+  execute_when_plain table (Some w) q =
       by_cond (Plain k a (executed table k a)) (is_of w.master (master_of q.address)) (λ e. executes-plain table w.ordinal.0 w.bias q.body) (λ e. leaves refl refl)
 
-  execute-plain : (table : List ℕ) (p : Pending) (q : Request) → Plain k a (executed table k a) (execute_of p a.fixed a.block q)
+  execute-plain : (table : List ℕ) (p : Option Write) (q : Request) → Plain k a (executed table k a) (execute_of p a.fixed a.block q)
   unfolding execute_of not_executed executed
   execute-plain table p q = by_cond (Plain k a (executed table k a)) (within 1 most_asked (length q.body)) (λ e. execute_when_plain table p q) (λ e. leaves refl refl)
 
@@ -146,7 +145,7 @@ module _ (k : Core) (a : Areas) where
 
 -- a step that says no, and lets go of the select where its outcome says so
 abbrev yields : Core → Areas → Step → Step
-yields k a p = record { says = p.says; action = Rest; core = with_hold k (refused_hold p.says.outcome k.hold); areas = a }
+yields k a p = record { says = p.says; action = None; core = with_hold k (refused_hold p.says.outcome k.hold); areas = a }
 
 pub record Spared (k : Core) (a : Areas) (p : Step) : Type 0 where
   pub row : declined p.says.outcome ≡ true
@@ -233,12 +232,12 @@ module _ (k : Core) (a : Areas) where
       rw (ne_eqb n 0 (omega arith), ne_eqb n 4 (omega arith), ne_eqb n 5 (omega arith)) refl in
       ap (λ (p : Step). p.core.hold) ((control_kept table h q).spared said).same ∙ rw e refl
 
-  write_when_kept : (p : Pending) (m : Master) (bias o : ℕ) → Kept (with_write k p) a (written k a) (write_when p m bias o)
+  write_when_kept : (p : Option Write) (m : Master) (bias o : ℕ) → Kept (with_write k p) a (written k a) (write_when p m bias o)
   unfolding write_when waits_for written carried_out declined within refused_hold
-  write_when_kept NoWrite m bias o = carries refl
-  write_when_kept (Waits w) m bias o = by_cond (Kept (with_write k (Waits w)) a (written k a)) (is_of w.master m) (λ e. carries refl) (λ e. declines refl refl)
+  write_when_kept None m bias o = carries refl
+  write_when_kept (Some w) m bias o = by_cond (Kept (with_write k (Some w)) a (written k a)) (is_of w.master m) (λ e. carries refl) (λ e. declines refl refl)
 
-  write_kept : (p : Pending) (q : Request) → Kept (with_write k p) a (written k a) (write_of p q)
+  write_kept : (p : Option Write) (q : Request) → Kept (with_write k p) a (written k a) (write_of p q)
   unfolding write_of written declined within refused_hold
   write_kept p q = by_cond (Kept (with_write k p) a (written k a)) (counts 3 q) (λ e. write_when_kept p (master_of q.address) (word_at q.body 0) (get_or q.body 2 0)) (λ e. declines refl refl)
 

@@ -30,8 +30,7 @@ use Rattle.model.specs.declared.Master.{Master}
 use Rattle.model.specs.declared.Mark.{Mark}
 use Rattle.model.specs.declared.Core.{Core}
 use Rattle.model.specs.declared.HistoryReply.{HistoryReply}
-use Rattle.model.specs.declared.Memory.{Memory}
-use Rattle.model.specs.declared.Memory.TheVariants.{Nothing, Remembered}
+use Rattle.std.specs.Prelude.{None, Option, Some}
 use Rattle.model.proofs.PairLaws.{by_heard}
 use Rattle.model.proofs.Pairs.{by_pair}
 use Rattle.model.proofs.Conditions.{by_cond, false-true, and_left, and_right, and_both}
@@ -42,9 +41,9 @@ use Rattle.model.proofs.Shown.{shown-beside, shown-refused, shown-forgot, shown-
 -- ---- the invariant: the unit's memory is what the line showed last
 
 -- the records of a remembered reply are held, and no more than a reply can tell
-abbrev pub Holds : Memory → Files → Type 0
-Holds Nothing fs = Unit {0}
-Holds (Remembered t) fs = (t.quantity ≤ length (held_in fs t.file.0)) × (t.quantity < 128)
+abbrev pub Holds : Option HistoryReply → Files → Type 0
+Holds None fs = Unit {0}
+Holds (Some t) fs = (t.quantity ≤ length (held_in fs t.file.0)) × (t.quantity < 128)
 
 pub record Matches (h : History) (l : Latest) : Type 0 where
   pub latest : l ≡ remembered_as h.memory h.files
@@ -116,24 +115,24 @@ file-quantity values f d n = by_cond (λ k. min n k < 128) d (λ e. omega (arith
         (div-lt_iff_lt-mul k).1 h
 
 -- the records of the latest reply, if it went to this master, stood before what is held then
-pub released_for : (w : Memory) (fs : Files) (m : Master) (f : ℕ) (zs : List ℕ) (ps : List (List ℕ)) (g : ℕ)
+pub released_for : (w : Option HistoryReply) (fs : Files) (m : Master) (f : ℕ) (zs : List ℕ) (ps : List (List ℕ)) (g : ℕ)
     → held_in fs g ≡ released_by (remembered_as w fs) (told m f true zs ps) g ++ held_in (applied (freed_for w m) fs) g
 unfolding freed_for applied released_by
-released_for Nothing fs m f zs ps g = refl
-released_for (Remembered t) fs m f zs ps g = go (is_of t.master m)
+released_for None fs m f zs ps g = refl
+released_for (Some t) fs m f zs ps g = go (is_of t.master m)
   where
     go : (a : Bool) → held_in fs g ≡ cond (a && eqb t.file.0 g) (take t.quantity (held_in fs t.file.0)) [] ++ held_in (applied (cond a (cuts t.file.0 0 t.quantity) stays) fs) g
     go true = held_front fs t.file.0 g t.quantity
     go false = refl
 
 -- and none is dropped
-freed_drops : (w : Memory) (m : Master) (ns : List ℕ) → dropped_after (freed_for w m) ns ≡ ns
+freed_drops : (w : Option HistoryReply) (m : Master) (ns : List ℕ) → dropped_after (freed_for w m) ns ≡ ns
 unfolding freed_for dropped_after
-freed_drops Nothing m ns = refl
-freed_drops (Remembered t) m ns = by_cond (λ ch. dropped_after ch ns ≡ ns) (is_of t.master m) (λ e. refl) (λ e. refl)
+freed_drops None m ns = refl
+freed_drops (Some t) m ns = by_cond (λ ch. dropped_after ch ns ≡ ns) (is_of t.master m) (λ e. refl) (λ e. refl)
 
 -- what is left is sized as before
-pub sized_for : {n : ℕ} (w : Memory) (fs : Files) (m : Master) (g : ℕ) → AllSized n (held_in fs g) → AllSized n (held_in (applied (freed_for w m) fs) g)
+pub sized_for : {n : ℕ} (w : Option HistoryReply) (fs : Files) (m : Master) (g : ℕ) → AllSized n (held_in fs g) → AllSized n (held_in (applied (freed_for w m) fs) g)
 sized_for w fs m g h = sized-rest (released_by (remembered_as w fs) (told m 0 true [] []) g) (rw (released_for w fs m 0 [] [] g) at h)
 
 -- ---- a frame for this unit
@@ -152,12 +151,12 @@ module _ (c : Config) (l : Latest) (i : Inner) (mark : Mark) (q : Request) (t : 
   unfolding Fine alone finished changed_by applied dropped_after
   keeps_fine p a b = still t (shown-beside c q _ a b)
 
-  forgot-moved : Moved l i.history forgot never nothing (changed_by stays Nothing i.history)
+  forgot-moved : Moved l i.history forgot never nothing (changed_by stays None i.history)
   unfolding changed_by applied dropped_after latest_after without
   forgot-moved = record { repeats = shown-else refl; moved = λ g. unreleased i.history.files g (released-forgot l g); counted = λ g. refl; matches = record { latest = refl; holds = tt } }
 
   abbrev begun : Stepped
-  begun = record { step = scanned (restarted i.core) i.areas (tells []); memory = Nothing; change = stays }
+  begun = record { step = scanned (restarted i.core) i.areas (tells []); memory = None; change = stays }
 
   forgot_fine : initialises q ≡ true → Fine c l i mark q (finished i q begun)
   unfolding Fine finished scanned
@@ -189,7 +188,7 @@ module _ (c : Config) (l : Latest) (i : Inner) (mark : Mark) (q : Request) (t : 
 
   told_moved : (n : ℕ) (b : Bool) → n < 128 → n ≤ length (held_in left (file_of q))
       → Moved l i.history (told (master_of q.address) (file_of q) true (history_chars n b (held_in left (file_of q))) (take n (held_in left (file_of q)))) never nothing
-      (record { memory = Remembered (record { master = master_of q.address; file = record { 0 = file_of q }; dump = dumps q; quantity = n; more = b }); files = left; dropped = dropped_after freed i.history.dropped })
+      (record { memory = Some (record { master = master_of q.address; file = record { 0 = file_of q }; dump = dumps q; quantity = n; more = b }); files = left; dropped = dropped_after freed i.history.dropped })
   unfolding latest_after without
   told_moved n b few most =
       let zs = history_chars n b (held_in left (file_of q)) in
@@ -211,11 +210,10 @@ module _ (c : Config) (l : Latest) (i : Inner) (mark : Mark) (q : Request) (t : 
         as_shown (e ∙ ap (λ (x : Bool). told (master_of q.address) (file_of q) x (history_chars n (ltb n (length rs)) rs) (take n rs)) k) m
 
 -- a repeat: the same records to the same master
-abbrev holding : Core → Areas → Memory → Files → List ℕ → Inner
+abbrev holding : Core → Areas → Option HistoryReply → Files → List ℕ → Inner
 holding k a w fs ns = record { core = k; areas = a; history = record { memory = w; files = fs; dropped = ns } }
 
 pub same-master : (m n : Master) → is_of m n ≡ true → m ≡ n
-unfolding is_of
 same-master m n e = ap (λ (k : ℕ). record { 0 = k }) (eqb-true m.0 n.0 e)
 
 agrees-names : (r : HistoryReply) (q : Request) → agrees r q ≡ true → (r.master ≡ master_of q.address) × (r.file.0 ≡ file_of q)
@@ -227,15 +225,15 @@ agrees-names r q e =
 
 module _ (c : Config) (l : Latest) (k : Core) (a : Areas) (fs : Files) (ns : List ℕ) (mark : Mark) (q : Request)
     (sized : (g : ℕ) → AllSized (size_of c.values g) (held_in fs g)) (function : q.function ≡ 0x04) (plain : acknowledges q ≡ false) where
-  repeat_fine : (r : HistoryReply) → Matches (record { memory = Remembered r; files = fs; dropped = ns }) l → r.master ≡ master_of q.address → r.file.0 ≡ file_of q
-      → Fine c l (holding k a (Remembered r) fs ns) mark q
-      (finished (holding k a (Remembered r) fs ns) q (telling (holding k a (Remembered r) fs ns)
-      (record { says = tells (history_chars r.quantity r.more (held_in fs r.file.0)); memory = Remembered r; change = stays })))
+  repeat_fine : (r : HistoryReply) → Matches (record { memory = Some r; files = fs; dropped = ns }) l → r.master ≡ master_of q.address → r.file.0 ≡ file_of q
+      → Fine c l (holding k a (Some r) fs ns) mark q
+      (finished (holding k a (Some r) fs ns) q (telling (holding k a (Some r) fs ns)
+      (record { says = tells (history_chars r.quantity r.more (held_in fs r.file.0)); memory = Some r; change = stays })))
   unfolding Fine latest_after without telling scanned finished changed_by applied dropped_after
   repeat_fine r t em ef =
       let rs = take r.quantity (held_in fs r.file.0) in
       let e =
-      shown-told c q (holding k a (Remembered r) fs ns) mark r.quantity r.more (held_in fs r.file.0) (Remembered r) stays function t.holds.1 t.holds.0
+      shown-told c q (holding k a (Some r) fs ns) mark r.quantity r.more (held_in fs r.file.0) (Some r) stays function t.holds.1 t.holds.0
       (rw (← ef) (sized r.file.0)) in
       let zs = history_chars r.quantity r.more (held_in fs r.file.0) in
       let s : told (master_of q.address) (file_of q) (acknowledges q) zs rs ≡ told r.master r.file.0 false zs rs = rw (← em, ← ef, plain) in
@@ -247,14 +245,14 @@ module _ (c : Config) (l : Latest) (k : Core) (a : Areas) (fs : Files) (ns : Lis
         matches = record { latest = refl; holds = t.holds };
       })
 
-  again_fine : (w : Memory) → Matches (record { memory = w; files = fs; dropped = ns }) l
+  again_fine : (w : Option HistoryReply) → Matches (record { memory = w; files = fs; dropped = ns }) l
       → Fine c l (holding k a w fs ns) mark q (finished (holding k a w fs ns) q (telling (holding k a w fs ns) (again_when w fs q)))
   unfolding again_when
-  again_fine Nothing t = untold_fine c l (holding k a Nothing fs ns) mark q t NothingAgain (omega arith)
-  again_fine (Remembered r) t =
-      by_cond {A = Told} (λ x. Fine c l (holding k a (Remembered r) fs ns) mark q (finished (holding k a (Remembered r) fs ns) q (telling (holding k a (Remembered r) fs ns) x))) (agrees r q)
+  again_fine None t = untold_fine c l (holding k a None fs ns) mark q t NothingAgain (omega arith)
+  again_fine (Some r) t =
+      by_cond {A = Told} (λ x. Fine c l (holding k a (Some r) fs ns) mark q (finished (holding k a (Some r) fs ns) q (telling (holding k a (Some r) fs ns) x))) (agrees r q)
       (λ e. let n = agrees-names r q e in repeat_fine r t n.0 n.1)
-      (λ e. untold_fine c l (holding k a (Remembered r) fs ns) mark q t NothingAgain (omega arith))
+      (λ e. untold_fine c l (holding k a (Some r) fs ns) mark q t NothingAgain (omega arith))
 
 module _ (c : Config) (l : Latest) (i : Inner) (mark : Mark) (t : Matches i.history l)
     (sized : (g : ℕ) → AllSized (size_of c.values g) (held_in i.history.files g)) where

@@ -24,8 +24,8 @@ use Rattle.model.specs.declared.Sampled.{Sampled}
 use Rattle.model.specs.declared.Sampled.TheVariants.{Ready, NotReady}
 use Rattle.model.specs.declared.Master.{Master}
 use Rattle.model.specs.declared.Record.{Record}
-use Rattle.model.specs.declared.Memory.{Memory}
-use Rattle.model.specs.declared.Memory.TheVariants.{Nothing, Remembered}
+use Rattle.std.specs.Prelude.{None, Option, Some}
+use Rattle.model.specs.declared.HistoryReply.{HistoryReply}
 use Rattle.model.proofs.Conditions.{by_cond, and_left}
 use Rattle.model.proofs.FileLaws.{held-store, held_cut, length-store, length_cut, held_none, told_after, new_told, TakenIn, stored-kept, stored-swapped}
 use Rattle.model.proofs.Parts.{Parts, InnerHas, Lasts, make_has}
@@ -63,7 +63,7 @@ record HistoryFormed (c : Config) (h : History) : Type 0 where
 
 module _ (c : Config) where
   -- what is left of a file after a cut is sized as before
-  cut_formed : (h : History) (m : Memory) (f at n : ℕ) → HistoryFormed c h → HistoryFormed c (changed_by (cuts f at n) m h)
+  cut_formed : (h : History) (m : Option HistoryReply) (f at n : ℕ) → HistoryFormed c h → HistoryFormed c (changed_by (cuts f at n) m h)
   unfolding changed_by applied dropped_after
   cut_formed h m f at n k =
       record {
@@ -77,14 +77,14 @@ module _ (c : Config) where
             (λ b. k.records g));
       }
 
-  stays_formed : (h : History) (m : Memory) → HistoryFormed c h → HistoryFormed c (changed_by stays m h)
+  stays_formed : (h : History) (m : Option HistoryReply) → HistoryFormed c h → HistoryFormed c (changed_by stays m h)
   unfolding changed_by applied dropped_after
   stays_formed h m k = record { files = k.files; dropped = k.dropped; records = k.records }
 
-  freed_formed : (w : Memory) (h : History) (p : Master) (m : Memory) → HistoryFormed c h → HistoryFormed c (changed_by (freed_for w p) m h)
+  freed_formed : (w : Option HistoryReply) (h : History) (p : Master) (m : Option HistoryReply) → HistoryFormed c h → HistoryFormed c (changed_by (freed_for w p) m h)
   unfolding freed_for
-  freed_formed Nothing h p m k = stays_formed h m k
-  freed_formed (Remembered t) h p m k =
+  freed_formed None h p m k = stays_formed h m k
+  freed_formed (Some t) h p m k =
       by_cond (λ ch. HistoryFormed c (changed_by ch m h)) (is_of t.master p) (λ e. cut_formed h m t.file.0 0 t.quantity k) (λ e. stays_formed h m k)
 
   told_formed : (h : History) (q : Request) → HistoryFormed c h → HistoryFormed c (told_after h (new_told c h q))

@@ -33,7 +33,8 @@ use Rattle.model.specs.declared.Master.{Master}
 use Rattle.model.specs.declared.Heard.{Heard}
 use Rattle.model.specs.declared.Heard.TheVariants.{Broken, Wrong, Whole, Pair}
 use Rattle.model.specs.declared.Mark.{Mark}
-use Rattle.model.specs.declared.Memory.{Memory}
+use Rattle.std.specs.Prelude.{Option}
+use Rattle.model.specs.declared.HistoryReply.{HistoryReply}
 use Rattle.model.proofs.Conditions.{and_left}
 use Rattle.model.proofs.Shape.{sized_front}
 
@@ -103,7 +104,7 @@ module _ (c : Config) (q : Request) where
   shown-forgot i mark m o a = let f = initialises-function a in simp (o, a, f)
 
   -- a history reply shows its master, its file and its records
-  pub shown-told : (i : Inner) (mark : Mark) (n : ℕ) (b : Bool) (rs : List (List ℕ)) (w : Memory) (ch : Change)
+  pub shown-told : (i : Inner) (mark : Mark) (n : ℕ) (b : Bool) (rs : List (List ℕ)) (w : Option HistoryReply) (ch : Change)
       → q.function ≡ 0x04 → n < 128 → n ≤ length rs → AllSized (size_of c.values (file_of q)) rs
       → shown_for c q (sent_chars mark (finished i q (telling i (record { says = tells (history_chars n b rs); memory = w; change = ch }))).sent)
       ≡ told (master_of q.address) (file_of q) (acknowledges q) (history_chars n b rs) (take n rs)

@@ -26,8 +26,8 @@ use Rattle.model.specs.declared.Stored.TheVariants.{Kept, Swapped, Full, NotEqui
 use Rattle.model.specs.declared.Answer.TheVariants.{Ended}
 use Rattle.model.specs.declared.File.{File}
 use Rattle.model.specs.declared.Mark.{Mark}
-use Rattle.model.specs.declared.Memory.{Memory}
-use Rattle.model.specs.declared.Memory.TheVariants.{Nothing, Remembered}
+use Rattle.std.specs.Prelude.{None, Option, Some}
+use Rattle.model.specs.declared.HistoryReply.{HistoryReply}
 use Rattle.model.proofs.Conditions.{by_cond, false-true}
 use Rattle.model.proofs.FileLaws.{held-store, held_swap, TakenIn, stored-kept, stored-swapped}
 use Rattle.model.proofs.Shape.{taken_there}
@@ -40,10 +40,10 @@ FineEvent c l i mark e m =
     Moved l i.history (shown_by c e (sent_chars mark m.sent)) (drops_by e m.answer) (stored_by e i.core.clock m.answer) m.inner.history
 
 -- the records that the line shows as sent are as many as the memory spares
-pub spared-long : (w : Memory) (fs : Files) (g : ℕ) → Holds w fs → length (spared_by (remembered_as w fs) g) ≡ spared_in w g
+pub spared-long : (w : Option HistoryReply) (fs : Files) (g : ℕ) → Holds w fs → length (spared_by (remembered_as w fs) g) ≡ spared_in w g
 unfolding spared_by spared_in
-spared-long Nothing fs g h = refl
-spared-long (Remembered t) fs g h =
+spared-long None fs g h = refl
+spared-long (Some t) fs g h =
     by_both (eqb t.file.0 g) (length-take-le t.quantity (held_in fs t.file.0) h.0)
   where
     by_both : (b : Bool) → length (take t.quantity (held_in fs t.file.0)) ≡ t.quantity
@@ -52,10 +52,10 @@ spared-long (Remembered t) fs g h =
     by_both false e = refl
 
 -- and stand at the front
-pub spared_front : (w : Memory) (fs : Files) (g : ℕ) → held_in fs g ≡ spared_by (remembered_as w fs) g ++ drop (spared_in w g) (held_in fs g)
+pub spared_front : (w : Option HistoryReply) (fs : Files) (g : ℕ) → held_in fs g ≡ spared_by (remembered_as w fs) g ++ drop (spared_in w g) (held_in fs g)
 unfolding spared_by spared_in
-spared_front Nothing fs g = refl
-spared_front (Remembered t) fs g = go (eqb t.file.0 g) refl
+spared_front None fs g = refl
+spared_front (Some t) fs g = go (eqb t.file.0 g) refl
   where
     go : (b : Bool) → eqb t.file.0 g ≡ b → held_in fs g ≡ cond b (take t.quantity (held_in fs t.file.0)) [] ++ drop (cond b t.quantity 0) (held_in fs g)
     go true e = rw (eqb-true t.file.0 g e) (sym (take-append-drop t.quantity (held_in fs g)))
@@ -72,11 +72,11 @@ without_front true n rs new h k =
 without_front false n rs new h k = (sym (take-append-le n rs new h), omega (arith, length-append rs new))
 
 -- files with more at their ends, and perhaps less behind what is spared: the remembered records stay the oldest
-same_store : (w : Memory) (fs gs : Files) (drops : ℕ → Bool) (new : ℕ → List (List ℕ)) → ((g : ℕ) → held_in gs g ≡ without (drops g) (spared_in w g) (held_in fs g) ++ new g)
+same_store : (w : Option HistoryReply) (fs gs : Files) (drops : ℕ → Bool) (new : ℕ → List (List ℕ)) → ((g : ℕ) → held_in gs g ≡ without (drops g) (spared_in w g) (held_in fs g) ++ new g)
     → ((g : ℕ) → drops g ≡ true → 0 < length (new g)) → Holds w fs → (remembered_as w fs ≡ remembered_as w gs) × Holds w gs
 unfolding history_chars spared_in
-same_store Nothing fs gs drops new e k h = (refl, tt)
-same_store (Remembered t) fs gs drops new e k h =
+same_store None fs gs drops new e k h = (refl, tt)
+same_store (Some t) fs gs drops new e k h =
     let n = t.quantity in
     let f = t.file.0 in
     let o = rw (eq-eqb f f refl) at (e f) in
@@ -87,7 +87,7 @@ module _ (c : Config) (l : Latest) (i : Inner) (mark : Mark) (t : Matches i.hist
   abbrev fs : Files
   fs = i.history.files
 
-  abbrev w : Memory
+  abbrev w : Option HistoryReply
   w = i.history.memory
 
   -- a record stored, and one dropped for it or none

@@ -43,8 +43,7 @@ use Rattle.model.specs.declared.Outcome.{Outcome}
 use Rattle.model.specs.declared.Outcome.TheVariants.{NotValid, NothingAgain}
 use Rattle.model.specs.declared.Sending.TheVariants.{Nop}
 use Rattle.model.specs.declared.HistoryReply.{HistoryReply}
-use Rattle.model.specs.declared.Memory.{Memory}
-use Rattle.model.specs.declared.Memory.TheVariants.{Nothing, Remembered}
+use Rattle.std.specs.Prelude.{None, Option, Some}
 use Rattle.model.proofs.Conditions.{or_right, by_cond, by_bool, by_eqb, and_left, and_right, and_both, or_cases, false-true, every-up_from}
 use Rattle.model.proofs.FileLaws.{told_after, new_told}
 use Rattle.model.proofs.PartFits.{FilesFit, history-files, history-memory, told-fits}
@@ -247,25 +246,25 @@ pub record Recorded (c : Config) (fs : Files) : Type 0 where
   pub good : (g : ℕ) → all_stamped (held_in fs g) ≡ true
 
 module _ (c : Config) (valid : valid_of c ≡ true) (q : Request) (e : q.function ≡ 0x04) where
-  history-refused : (o : Outcome) → sending_of o ≡ Nop → (w : Memory) → Answers q (untold o w).says
+  history-refused : (o : Outcome) → sending_of o ≡ Nop → (w : Option HistoryReply) → Answers q (untold o w).says
   unfolding untold
   history-refused o s w = declined q [] o s (omega arith) (refuse_plain q [] (inl e) ∙ (unfold empty in refl))
 
   -- a remembered reply, and the history that remembers it
-  remembered_answer : (h : History) → history_fits c h ≡ true → Recorded c h.files → (t : HistoryReply) → h.memory ≡ Remembered t → t.dump ≡ dumps q
+  remembered_answer : (h : History) → history_fits c h ≡ true → Recorded c h.files → (t : HistoryReply) → h.memory ≡ Some t → t.dump ≡ dumps q
       → Answers q (tells (history_chars t.quantity t.more (held_in h.files t.file.0)))
   unfolding memory_fits
   remembered_answer h ok k t m d =
       let fs = h.files in
       let f = t.file.0 in
       let ys = history_chars t.quantity t.more (held_in fs f) in
-      let r : reply_fits c fs t ≡ true = subst (λ (w : Memory). memory_fits c fs w ≡ true) m (history-memory c h ok) in
+      let r : reply_fits c fs t ≡ true = subst (λ (w : Option HistoryReply). memory_fits c fs w ≡ true) m (history-memory c h ok) in
       let room = file-room c fs (history-files c h ok) f (reply-file c fs t r) in
       told q ys (reply-short c valid fs t r room (k.all f) (k.good f))
       (tell_history q ys e ∙ subst (λ (b : Bool). tells_records b ys ≡ true) d (reply-tells c valid fs t r room (k.all f) (k.good f)))
 
   -- the files once the latest reply's records are freed
-  freed_recorded : (w : Memory) (fs : Files) → Recorded c fs → Recorded c (applied (freed_for w (master_of q.address)) fs)
+  freed_recorded : (w : Option HistoryReply) (fs : Files) → Recorded c fs → Recorded c (applied (freed_for w (master_of q.address)) fs)
   freed_recorded w fs k =
       record {
         all = λ g. sized_for w fs (master_of q.address) g (k.all g);
@@ -277,11 +276,11 @@ module _ (c : Config) (valid : valid_of c ≡ true) (q : Request) (e : q.functio
     unfolding told_from changed_by
     new_answer f = remembered_answer (told_after h (new_told c h q)) (told-fits c h q m f ok) (freed_recorded h.memory h.files k) _ refl refl
 
-    again-answer : (w : Memory) → h.memory ≡ w → Answers q (again_when w h.files q).says
+    again-answer : (w : Option HistoryReply) → h.memory ≡ w → Answers q (again_when w h.files q).says
     unfolding again_when
-    again-answer Nothing e = history-refused NothingAgain refl Nothing
-    again-answer (Remembered t) e =
-        by_cond {A = Told} (λ x. Answers q x.says) (agrees t q) (λ a. remembered_answer h ok k t e (agreed_kind t q a)) (λ a. history-refused NothingAgain refl (Remembered t))
+    again-answer None e = history-refused NothingAgain refl None
+    again-answer (Some t) e =
+        by_cond {A = Told} (λ x. Answers q x.says) (agrees t q) (λ a. remembered_answer h ok k t e (agreed_kind t q a)) (λ a. history-refused NothingAgain refl (Some t))
 
     pub history-answer : q.command < 128 → counts 0 q ≡ true → Answers q (history_of c.files c.values h q).says
     unfolding history_of tell_of applied

@@ -42,8 +42,8 @@ use Rattle.model.specs.declared.Sending.TheVariants.{Nop}
 use Rattle.model.specs.declared.Master.{Master}
 use Rattle.model.specs.declared.Hold.{Hold}
 use Rattle.model.specs.declared.Hold.TheVariants.{Free, Held, TimedOut}
-use Rattle.model.specs.declared.Pending.{Pending}
-use Rattle.model.specs.declared.Pending.TheVariants.{NoWrite, Waits}
+use Rattle.std.specs.Prelude.{None, Option, Some}
+use Rattle.model.specs.declared.Write.{Write}
 use Rattle.model.proofs.Conditions.{by_cond, by_eqb, and_left, and_right, and_both, or_cases}
 use Rattle.model.proofs.Asking.{counted, within_both}
 use Rattle.model.proofs.Keeping.{same_refl}
@@ -168,10 +168,10 @@ module _ (c : Config) (i : Inner) (lag : ℕ) (q : Request) (e : q.function ≡ 
           ∙ (unfold tells_internal has_accumulator in rw (eq-eqb q.command 0x11 m) (and_both (same_refl q.body) (and_left (accumulator (get_or q.body 0 0)) _ k))))
 
   -- 20h/30h: taken, and then nothing is sent, or refused by RST
-  write_when_lem : (p : Pending) (m : Master) (bias o : ℕ) → Answers q (write_when p m bias o).says
+  write_when_lem : (p : Option Write) (m : Master) (bias o : ℕ) → Answers q (write_when p m bias o).says
   unfolding write_when waits_for
-  write_when_lem NoWrite m bias o = silent
-  write_when_lem (Waits w) m bias o =
+  write_when_lem None m bias o = silent
+  write_when_lem (Some w) m bias o =
       by_cond {A = WriteResult} (λ r. Answers q r.says) (is_of w.master m) (λ k. silent) (λ k. reset q WriteHeld refl)
 
   write-answer : counts 3 q ≡ true → Answers q (write_of i.core.write q).says
@@ -180,10 +180,10 @@ module _ (c : Config) (i : Inner) (lag : ℕ) (q : Request) (e : q.function ≡ 
 
   -- 20h/31h
   module _ (m : q.command ≡ 0x31) where
-    execute_when_lem : (p : Pending) → Answers q (execute_when p i.areas.fixed i.areas.block q).says
+    execute_when_lem : (p : Option Write) → Answers q (execute_when p i.areas.fixed i.areas.block q).says
     unfolding execute_when executes not_executed
-    execute_when_lem NoWrite = reset q NothingWaits refl
-    execute_when_lem (Waits w) =
+    execute_when_lem None = reset q NothingWaits refl
+    execute_when_lem (Some w) =
         let done : Answers q (tells []) = internal_done (λ z. omega arith) (λ z. omega arith) in
         by_cond {A = Executed} (λ r. Answers q r.says) (is_of w.master (master_of q.address))
         (λ k. by_cond {A = Executed} (λ r. Answers q r.says) (reaches i.areas.fixed i.areas.block w.ordinal.0 w.bias (length q.body)) (λ k. done) (λ k. internal_refused NotValid refl (λ z. omega arith) (λ z. omega arith)))

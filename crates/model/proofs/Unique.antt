@@ -7,7 +7,14 @@ use Rattle.model.specs.Scan.{Scan, Fills}
 use Rattle.model.specs.declared.Outcome.{Outcome}
 use Rattle.model.specs.declared.Filled.{Filled}
 use Rattle.model.proofs.Frame.new.Reads as frame-new
-use Rattle.model.proofs.Master.is.Reads as master-is
+use Rattle.model.proofs.MasterPartialEq.eq.Reads as master-is
+use Rattle.model.proofs.U8FromOutcome.from.Reads as number
+use Rattle.model.proofs.function.FunctionTryFromU8.try_from.Reads as function-try_from
+use Rattle.model.proofs.Functions.{function-once, calculations-once, control-once, internal-once, return-once}
+use Rattle.model.proofs.command.CalculationsCommandTryFromU8.try_from.Reads as calculations-try_from
+use Rattle.model.proofs.command.ControlCommandTryFromU8.try_from.Reads as control-try_from
+use Rattle.model.proofs.command.InternalCommandTryFromU8.try_from.Reads as internal-try_from
+use Rattle.model.proofs.command.ReturnCommandTryFromU8.try_from.Reads as return-try_from
 use Rattle.model.proofs.Select.new.Reads as select-new
 use Rattle.model.proofs.aged.Reads as aged
 use Rattle.model.proofs.Record.size.Reads as record-size
@@ -45,3 +52,21 @@ one_record_new κ a x y s t p q = p ∙ sym q
 
 pub one_limits_told : One limits-told.Post (λ κ r s. r)
 one_limits_told κ a x y s t p q = p ∙ sym q
+
+pub one_number : One number.Post (λ κ r s. r)
+one_number κ a x y s t p q = p ∙ sym q
+
+pub one-function_try_from : One function-try_from.Post (λ κ r s. r)
+one-function_try_from κ a x y s t p q = function-once _ x y p q
+
+pub one-calculations_try_from : One calculations-try_from.Post (λ κ r s. r)
+one-calculations_try_from κ a x y s t p q = calculations-once _ x y p q
+
+pub one-control_try_from : One control-try_from.Post (λ κ r s. r)
+one-control_try_from κ a x y s t p q = control-once _ x y p q
+
+pub one-internal_try_from : One internal-try_from.Post (λ κ r s. r)
+one-internal_try_from κ a x y s t p q = internal-once _ x y p q
+
+pub one-return_try_from : One return-try_from.Post (λ κ r s. r)
+one-return_try_from κ a x y s t p q = return-once _ x y p q

@@ -1,5 +1,5 @@
 -- Blocks: WRITE, EXECUTE and READ over the fixed area and the parameter block.
-use Rattle.std.specs.Prelude.{ℕ, ◌+◌, List, [], ◌∷◌, Bool, true, false, cond, not, ◌&&◌, ◌||◌, length, get_or, eqb, leb}
+use Rattle.std.specs.Prelude.{ℕ, ◌+◌, List, [], ◌∷◌, Bool, true, false, cond, not, ◌&&◌, ◌||◌, length, get_or, eqb, leb, None, Option, Some}
 use Rattle.chars.specs.Put.{put, part}
 use Rattle.chars.specs.Word.{word_at}
 use Rattle.model.specs.Limits.{most_asked}
@@ -12,8 +12,6 @@ use Rattle.model.specs.declared.Outcome.TheVariants.{WriteTaken, WrongCount, Not
 use Rattle.model.specs.declared.Master.{Master}
 use Rattle.model.specs.declared.Ordinal.{Ordinal}
 use Rattle.model.specs.declared.Write.{Write}
-use Rattle.model.specs.declared.Pending.{Pending}
-use Rattle.model.specs.declared.Pending.TheVariants.{NoWrite, Waits}
 
 -- the ordinals that there are; 02 and 05 are left out (Write 1; Covers 2; paper 8.1)
 unfoldable pub known : ℕ → Bool
@@ -39,19 +37,19 @@ reaches fixed block o bias n = known o && leb (bias + n) (length (block_of fixed
 -- what a WRITE comes to
 pub record WriteResult : Type 0 where
   pub says : Scan
-  pub write : Pending
+  pub write : Option Write
 
 -- a WRITE is taken, and waits (Write 5)
 unfoldable pub waits_for : Master → ℕ → ℕ → WriteResult
-waits_for m bias o = record { says = record { outcome = WriteTaken; chars = [] }; write = Waits (record { master = m; bias = bias; ordinal = record { 0 = o }; age = 0 }) }
+waits_for m bias o = record { says = record { outcome = WriteTaken; chars = [] }; write = Some (record { master = m; bias = bias; ordinal = record { 0 = o }; age = 0 }) }
 
 -- 20h/30h: another master's write stands; a master's own is replaced (Write 4, 5)
-unfoldable pub write_when : Pending → Master → ℕ → ℕ → WriteResult
-write_when NoWrite m bias o = waits_for m bias o
-write_when (Waits w) m bias o = cond (is_of w.master m) (waits_for m bias o) (record { says = refuses WriteHeld; write = Waits w })
+unfoldable pub write_when : Option Write → Master → ℕ → ℕ → WriteResult
+write_when None m bias o = waits_for m bias o
+write_when (Some w) m bias o = cond (is_of w.master m) (waits_for m bias o) (record { says = refuses WriteHeld; write = Some w })
 
 -- 20h/30h: bias word and ordinal, which EXECUTE judges (Write 3; paper 6.4)
-unfoldable pub write_of : Pending → Request → WriteResult
+unfoldable pub write_of : Option Write → Request → WriteResult
 write_of p q =
     cond (counts 3 q) (write_when p (master_of q.address) (word_at q.body 0) (get_or q.body 2 0)) (record { says = refuses WrongCount; write = p })
 
@@ -80,15 +78,15 @@ executes fixed block o bias ys =
     (not_executed NotValid fixed block)
 
 -- another master's write, or none (Write 8)
-unfoldable pub execute_when : Pending → List ℕ → List ℕ → Request → Executed
-execute_when NoWrite fixed block q = not_executed NothingWaits fixed block
-execute_when (Waits w) fixed block q =
+unfoldable pub execute_when : Option Write → List ℕ → List ℕ → Request → Executed
+execute_when None fixed block q = not_executed NothingWaits fixed block
+execute_when (Some w) fixed block q =
     cond (is_of w.master (master_of q.address))
     (executes fixed block w.ordinal.0 w.bias q.body)
     (not_executed WriteHeld fixed block)
 
 -- 20h/31h: 1 to 128 characters (Write 7; paper 6.4)
-unfoldable pub execute_of : Pending → List ℕ → List ℕ → Request → Executed
+unfoldable pub execute_of : Option Write → List ℕ → List ℕ → Request → Executed
 execute_of p fixed block q = cond (within 1 most_asked (length q.body)) (execute_when p fixed block q) (not_executed WrongCount fixed block)
 
 -- a refused READ sends the request's data back (Write 13)
@@ -105,13 +103,13 @@ read_of fixed block q =
     (returned WrongCount q)
 
 -- a frame of its master, or time, drops a write (Write 6)
-unfoldable pub dropped : Pending → Master → Pending
-dropped NoWrite m = NoWrite
-dropped (Waits w) m = cond (is_of w.master m) NoWrite (Waits w)
+unfoldable pub dropped : Option Write → Master → Option Write
+dropped None m = None
+dropped (Some w) m = cond (is_of w.master m) None (Some w)
 
-unfoldable pub waits_after : Pending → ℕ → Pending
-waits_after NoWrite ms = NoWrite
-waits_after (Waits w) ms =
+unfoldable pub waits_after : Option Write → ℕ → Option Write
+waits_after None ms = None
+waits_after (Some w) ms =
     cond (lives w.age ms)
-    (Waits (record { master = w.master; bias = w.bias; ordinal = w.ordinal; age = w.age + ms }))
-    NoWrite
+    (Some (record { master = w.master; bias = w.bias; ordinal = w.ordinal; age = w.age + ms }))
+    None

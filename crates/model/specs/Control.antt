@@ -1,5 +1,5 @@
 -- Function 10h: select and operate, over the unit's one select.
-use Rattle.std.specs.Prelude.{ℕ, ◌+◌, List, [], ◌∷◌, Bool, true, false, cond, not, ◌&&◌, get_or, eqb, leb}
+use Rattle.std.specs.Prelude.{None, Option, Some, ℕ, ◌+◌, List, [], ◌∷◌, Bool, true, false, cond, not, ◌&&◌, get_or, eqb, leb}
 use Rattle.model.specs.Limits.{hold_time}
 use Rattle.model.specs.Frame.{Request, master_of}
 use Rattle.model.specs.Config.{has}
@@ -13,27 +13,24 @@ use Rattle.model.specs.declared.Outcome.TheVariants.{
   SelectHeld,
   NothingWaits,
 }
-use Rattle.model.specs.declared.Action.{Action}
-use Rattle.model.specs.declared.Action.TheVariants.{Rest, Operate}
+use Rattle.model.specs.declared.Operation.{Operation}
 use Rattle.model.specs.declared.Master.{Master}
 use Rattle.model.specs.declared.ControlOutput.{ControlOutput}
 use Rattle.model.specs.declared.Select.{Select}
-use Rattle.model.specs.declared.Age.{Age}
-use Rattle.model.specs.declared.Age.TheVariants.{Lives, Over}
 use Rattle.model.specs.declared.Hold.{Hold}
 use Rattle.model.specs.declared.Hold.TheVariants.{Free, Held, TimedOut}
 
 -- what a control request comes to
 pub record Controlled : Type 0 where
   pub says : Scan
-  pub action : Action
+  pub action : Option Operation
   pub hold : Hold
 
 abbrev pub keeps : Outcome → Hold → Controlled
-keeps o h = record { says = refuses o; action = Rest; hold = h }
+keeps o h = record { says = refuses o; action = None; hold = h }
 
 -- the same master
-unfoldable pub is_of : Master → Master → Bool
+abbrev pub is_of : Master → Master → Bool
 is_of m n = eqb m.0 n.0
 
 -- a select is taken, and its number echoed (Select 4)
@@ -41,7 +38,7 @@ unfoldable pub takes : Master → ℕ → Bool → Controlled
 takes m n close =
     record {
       says = tells (n ∷ []);
-      action = Rest;
+      action = None;
       hold = Held (record { master = m; output = record { 0 = n }; close = close; age = 0 });
     }
 
@@ -57,7 +54,7 @@ operate_when Free m = keeps NothingWaits Free
 operate_when (TimedOut p) m = cond (is_of p m) (keeps SelectTimedOut Free) (keeps NothingWaits (TimedOut p))
 operate_when (Held s) m =
     cond (is_of s.master m)
-    (record { says = tells []; action = Operate s.output s.close; hold = Free })
+    (record { says = tells []; action = Some (record { output = s.output; close = s.close }); hold = Free })
     (keeps SelectHeld (Held s))
 
 -- 10h/21h where the select's own master has not broken it off (Select 7)
@@ -96,8 +93,8 @@ breaks (Held s) q = is_of s.master (master_of q.address) && not (operates q)
 abbrev pub lives : ℕ → ℕ → Bool
 lives age ms = leb (age + ms) hold_time
 
-unfoldable pub aged_of : ℕ → ℕ → Age
-aged_of age ms = cond (lives age ms) (Lives (age + ms)) Over
+unfoldable pub aged_of : ℕ → ℕ → Option ℕ
+aged_of age ms = cond (lives age ms) (Some (age + ms)) None
 
 -- a select whose time is over leaves its master's mark (Select 4)
 unfoldable pub held_after : Hold → ℕ → Hold

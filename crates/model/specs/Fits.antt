@@ -1,5 +1,5 @@
 -- The kept state that a unit will work on: every number in range, and no history reply that its file could not have given.
-use Rattle.std.specs.Prelude.{ℕ, List, [], ◌∷◌, Bool, true, false, cond, not, ◌&&◌, ◌||◌, length, eqb, leb, ltb}
+use Rattle.std.specs.Prelude.{ℕ, List, [], ◌∷◌, Bool, true, false, cond, not, ◌&&◌, ◌||◌, length, eqb, leb, ltb, None, Option, Some}
 use Rattle.chars.specs.Gather.{up_from, every}
 use Rattle.model.specs.Limits.{hold_time, silence_limit, file_room, most_means}
 use Rattle.model.specs.Config.{Config, valid_of, has, has_file, window_at}
@@ -11,12 +11,9 @@ use Rattle.model.specs.History.{most_of}
 use Rattle.model.specs.declared.Master.{Master}
 use Rattle.model.specs.declared.Hold.{Hold}
 use Rattle.model.specs.declared.Hold.TheVariants.{Free, Held, TimedOut}
-use Rattle.model.specs.declared.Pending.{Pending}
-use Rattle.model.specs.declared.Pending.TheVariants.{NoWrite, Waits}
+use Rattle.model.specs.declared.Write.{Write}
 use Rattle.model.specs.declared.Core.{Core}
 use Rattle.model.specs.declared.HistoryReply.{HistoryReply}
-use Rattle.model.specs.declared.Memory.{Memory}
-use Rattle.model.specs.declared.Memory.TheVariants.{Nothing, Remembered}
 use Rattle.model.specs.declared.Port.{Port}
 
 -- a master has five bits (Frames 6)
@@ -29,9 +26,9 @@ hold_fits c Free = true
 hold_fits c (TimedOut m) = master_fits m
 hold_fits c (Held s) = master_fits s.master && (has c.outputs s.output.0 && leb s.age hold_time)
 
-unfoldable pub write_fits : Pending → Bool
-write_fits NoWrite = true
-write_fits (Waits w) = master_fits w.master && leb w.age hold_time
+unfoldable pub write_fits : Option Write → Bool
+write_fits None = true
+write_fits (Some w) = master_fits w.master && leb w.age hold_time
 
 unfoldable pub core_fits : Config → Core → Bool
 core_fits c k = clock_fits k.clock && (hold_fits c k.hold && write_fits k.write)
@@ -45,9 +42,9 @@ reply_fits c fs t =
     master_fits t.master && (has_file c.files t.file.0
     && givable (most_of c.values t.file.0 t.dump) (length (held_in fs t.file.0)) t.quantity t.more)
 
-unfoldable pub memory_fits : Config → Files → Memory → Bool
-memory_fits c fs Nothing = true
-memory_fits c fs (Remembered t) = reply_fits c fs t
+unfoldable pub memory_fits : Config → Files → Option HistoryReply → Bool
+memory_fits c fs None = true
+memory_fits c fs (Some t) = reply_fits c fs t
 
 -- a file holds up to 32 records, one that is not equipped none (History 4)
 unfoldable pub file_fits : Config → Files → ℕ → Bool

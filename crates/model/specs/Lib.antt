@@ -1,6 +1,8 @@
 pub mod Limits
 pub mod Tied
 pub mod Frame
+pub mod Function
+pub mod Command
 pub mod Sound
 pub mod Outcome
 pub mod Config

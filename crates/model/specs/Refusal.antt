@@ -1,5 +1,5 @@
 -- What a refusal may change, by its outcome alone and for every function alike (Outcomes 3, 4).
-use Rattle.std.specs.Prelude.{◌≡◌, ℕ, ◌≤◌, List, [], Bool, true, false, cond, ◌||◌, eqb, leb}
+use Rattle.std.specs.Prelude.{None, ◌≡◌, ℕ, ◌≤◌, List, [], Bool, true, false, cond, ◌||◌, eqb, leb, Option}
 use Rattle.model.specs.Frame.{Request, master_of, frame_in, request_in}
 use Rattle.model.specs.Outcome.{number_of, carried_out, stored_number, answer_number}
 use Rattle.model.specs.Config.{Config, within}
@@ -12,10 +12,9 @@ use Rattle.model.specs.Run.{result_of, next_of}
 use Rattle.model.specs.declared.Outcome.{Outcome}
 use Rattle.model.specs.declared.Answer.{Answer}
 use Rattle.model.specs.declared.Answer.TheVariants.{Ended, Storing, Sampling}
-use Rattle.model.specs.declared.Action.TheVariants.{Rest}
 use Rattle.model.specs.declared.Hold.{Hold}
 use Rattle.model.specs.declared.Hold.TheVariants.{Free}
-use Rattle.model.specs.declared.Pending.{Pending}
+use Rattle.model.specs.declared.Write.{Write}
 use Rattle.model.specs.declared.Core.{Core}
 use Rattle.model.specs.declared.Port.{Port}
 
@@ -28,7 +27,7 @@ unfoldable pub refused_hold : Outcome → Hold → Hold
 refused_hold o h = cond (eqb (number_of o) 11 || eqb (number_of o) 12) Free h
 
 -- a frame of the write's master that reaches this unit drops it (Write 6)
-unfoldable pub refused_write : Request → Outcome → Pending → Pending
+unfoldable pub refused_write : Request → Outcome → Option Write → Option Write
 refused_write q o p = cond (declined o) (dropped p (master_of q.address)) p
 
 -- a broadcast frame sets bit 2, a reply clears it (Frames 10)
@@ -64,7 +63,7 @@ replies (said r) = true
 -- what a unit that works made of a stretch with the request q, where it refused it by o
 pub record Refused (q : Request) (o : Outcome) (i : Inner) (m : Made) : Type 0 where
   pub inner : m.inner ≡ refused_inner q o i
-  pub action : m.action ≡ Rest
+  pub action : m.action ≡ None
   pub sent : replies m.sent ≡ declined o
   pub row : number_of o ≤ 16
 
@@ -93,7 +92,7 @@ refused_local r i = record { core = with_error i.core (was_full r || i.core.erro
 -- what a unit that works made of an event that is no stretch, where it refused it
 pub record RefusedLocally (i : Inner) (e : Event) (m : Made) : Type 0 where
   pub inner : m.inner ≡ refused_local m.answer i
-  pub action : m.action ≡ Rest
+  pub action : m.action ≡ None
   pub sent : m.sent ≡ silent
   pub port : (p : Port) → port_after p e m.answer ≡ p
   pub row : answer_number m.answer ≤ 16
@@ -101,5 +100,5 @@ pub record RefusedLocally (i : Inner) (e : Event) (m : Made) : Type 0 where
 -- such an event in the whole: the port stays, nothing is sent or operated
 pub record LocallyRefused (c : Config) (s : State) (e : Event) : Type 0 where
   pub state : next_of c s e ≡ record { inner = refused_local (result_of c s e).answer s.inner; port = s.port }
-  pub action : (result_of c s e).action ≡ Rest
+  pub action : (result_of c s e).action ≡ None
   pub reply : (result_of c s e).reply ≡ []

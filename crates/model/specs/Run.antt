@@ -1,5 +1,5 @@
 -- A run: events in turn from a state. Its trace has an entry for each event.
-use Rattle.std.specs.Prelude.{ℕ, List, [], ◌∷◌, Bool, false, cond, ltb}
+use Rattle.std.specs.Prelude.{None, Option, ℕ, List, [], ◌∷◌, Bool, false, cond, ltb}
 use Rattle.model.specs.Limits.{longest_reply}
 use Rattle.model.specs.Config.{Config}
 use Rattle.model.specs.State.{State, fresh_of}
@@ -12,8 +12,7 @@ use Rattle.model.specs.declared.Outcome.{Outcome}
 use Rattle.model.specs.declared.Outcome.TheVariants.{NotConfigured, BufferShort}
 use Rattle.model.specs.declared.Answer.{Answer}
 use Rattle.model.specs.declared.Answer.TheVariants.{Ended}
-use Rattle.model.specs.declared.Action.{Action}
-use Rattle.model.specs.declared.Action.TheVariants.{Rest}
+use Rattle.model.specs.declared.Operation.{Operation}
 use Rattle.model.specs.declared.Clock.{Clock}
 use Rattle.model.specs.declared.Port.{Port}
 
@@ -26,11 +25,11 @@ short (local l) = false
 -- what an event shows: its answer, the output action, the characters sent
 pub record Result : Type 0 where
   pub answer : Answer
-  pub action : Action
+  pub action : Option Operation
   pub reply : List ℕ
 
 unfoldable pub turned_away : Outcome → Result
-turned_away o = record { answer = Ended o; action = Rest; reply = [] }
+turned_away o = record { answer = Ended o; action = None; reply = [] }
 
 unfoldable pub shows : Port → Made → Result
 shows p m = record { answer = m.answer; action = m.action; reply = sent_chars p.mark m.sent }

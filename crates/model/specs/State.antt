@@ -1,13 +1,11 @@
 -- What a unit keeps: core, areas and history, and the port beside them.
-use Rattle.std.specs.Prelude.{ℕ, ◌+◌, List, [], ◌∷◌, ◌++◌, true, false, get_or, set, take, drop, replicate}
+use Rattle.std.specs.Prelude.{ℕ, ◌+◌, List, [], ◌∷◌, ◌++◌, true, false, get_or, set, take, drop, replicate, None, Option}
 use Rattle.model.specs.Limits.{most_means}
 use Rattle.model.specs.Config.{Config}
 use Rattle.model.specs.Plans.{empty_plans}
 use Rattle.model.specs.declared.Core.{Core}
 use Rattle.model.specs.declared.Hold.TheVariants.{Free}
-use Rattle.model.specs.declared.Pending.TheVariants.{NoWrite}
-use Rattle.model.specs.declared.Memory.{Memory}
-use Rattle.model.specs.declared.Memory.TheVariants.{Nothing}
+use Rattle.model.specs.declared.HistoryReply.{HistoryReply}
 use Rattle.model.specs.declared.Mark.TheVariants.{Fine}
 use Rattle.model.specs.declared.Port.{Port}
 
@@ -29,7 +27,7 @@ Files = List (List (List ℕ))
 
 -- the latest history reply, the records, and for each file how many it dropped (History 6; Request 7.7)
 pub record History : Type 0 where
-  pub memory : Memory
+  pub memory : Option HistoryReply
   pub files : Files
   pub dropped : List ℕ
 
@@ -61,7 +59,7 @@ fresh_core =
     record {
       clock = record { day = 1; hour = 0; minute = 0; second = 0; ms = 0 };
       hold = Free;
-      write = NoWrite;
+      write = None;
       configure = true;
       error = false;
       broadcast = false;
@@ -81,7 +79,7 @@ fresh_areas c =
     }
 
 unfoldable pub fresh_history : History
-fresh_history = record { memory = Nothing; files = replicate 32 []; dropped = replicate 32 0 }
+fresh_history = record { memory = None; files = replicate 32 []; dropped = replicate 32 0 }
 
 unfoldable pub fresh_port : Port
 fresh_port = record { silence = 0; mark = Fine }

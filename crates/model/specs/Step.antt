@@ -1,5 +1,5 @@
 -- One event: what a unit that works makes of it. The port is not seen here.
-use Rattle.std.specs.Prelude.{ℕ, ◌+◌, List, [], Bool, true, false, cond, ◌&&◌, take, drop, eqb}
+use Rattle.std.specs.Prelude.{None, Option, ℕ, ◌+◌, List, [], Bool, true, false, cond, ◌&&◌, take, drop, eqb}
 use Rattle.model.specs.Limits.{write_frame}
 use Rattle.model.specs.Frame.{Request, unit_of, master_of, broadcast_unit, heard_of, request_in}
 use Rattle.model.specs.Outcome.{number_of, sending_of, reply_function, answer_number}
@@ -37,23 +37,20 @@ use Rattle.model.specs.declared.Stored.{Stored}
 use Rattle.model.specs.declared.Stored.TheVariants.{Kept, Swapped, Full, NotEquipped, WrongValues}
 use Rattle.model.specs.declared.Answer.{Answer}
 use Rattle.model.specs.declared.Answer.TheVariants.{Ended, Storing, Sampling}
-use Rattle.model.specs.declared.Action.{Action}
-use Rattle.model.specs.declared.Action.TheVariants.{Rest}
+use Rattle.model.specs.declared.Operation.{Operation}
 use Rattle.model.specs.declared.Heard.{Heard}
 use Rattle.model.specs.declared.Heard.TheVariants.{Broken, Wrong, Whole, Pair}
 use Rattle.model.specs.declared.Clock.{Clock}
 use Rattle.model.specs.declared.Hold.{Hold}
 use Rattle.model.specs.declared.Hold.TheVariants.{Free}
-use Rattle.model.specs.declared.Pending.{Pending}
-use Rattle.model.specs.declared.Pending.TheVariants.{NoWrite}
-use Rattle.model.specs.declared.Memory.{Memory}
-use Rattle.model.specs.declared.Memory.TheVariants.{Nothing}
+use Rattle.model.specs.declared.Write.{Write}
+use Rattle.model.specs.declared.HistoryReply.{HistoryReply}
 use Rattle.model.specs.declared.Core.{Core}
 
 -- what a function makes of a request that reaches it
 pub record Step : Type 0 where
   pub says : Scan
-  pub action : Action
+  pub action : Option Operation
   pub core : Core
   pub areas : Areas
 
@@ -65,7 +62,7 @@ with_clock k t = record { clock = t; hold = k.hold; write = k.write; configure =
 abbrev pub with_hold : Core → Hold → Core
 with_hold k h = record { clock = k.clock; hold = h; write = k.write; configure = k.configure; error = k.error; broadcast = k.broadcast }
 
-abbrev pub with_write : Core → Pending → Core
+abbrev pub with_write : Core → Option Write → Core
 with_write k p = record { clock = k.clock; hold = k.hold; write = p; configure = k.configure; error = k.error; broadcast = k.broadcast }
 
 abbrev pub with_configure : Core → Bool → Core
@@ -84,26 +81,26 @@ abbrev pub with_values : Areas → List ℕ → Areas
 with_values a values = record { words = a.words; values = values; fixed = a.fixed; block = a.block; changed = a.changed; samples = a.samples; plans = a.plans }
 
 unfoldable pub scanned : Core → Areas → Scan → Step
-scanned k a r = record { says = r; action = Rest; core = k; areas = a }
+scanned k a r = record { says = r; action = None; core = k; areas = a }
 
 unfoldable pub changed : Core → Areas → Changed → Step
-changed k a r = record { says = r.says; action = Rest; core = k; areas = with_words a r.area }
+changed k a r = record { says = r.says; action = None; core = k; areas = with_words a r.area }
 
 unfoldable pub controlled : Core → Areas → Controlled → Step
 controlled k a r = record { says = r.says; action = r.action; core = with_hold k r.hold; areas = a }
 
 unfoldable pub timed : Core → Areas → Timed → Step
-timed k a r = record { says = r.says; action = Rest; core = with_clock k r.clock; areas = a }
+timed k a r = record { says = r.says; action = None; core = with_clock k r.clock; areas = a }
 
 unfoldable pub written : Core → Areas → WriteResult → Step
-written k a r = record { says = r.says; action = Rest; core = with_write k r.write; areas = a }
+written k a r = record { says = r.says; action = None; core = with_write k r.write; areas = a }
 
 -- an accepted EXECUTE clears bit 7 or bit 3; one into ordinal 03 makes every plan anew (Frames 10; Request 12.2)
 unfoldable pub executed : List ℕ → Core → Areas → Executed → Step
 executed table k a r =
     record {
       says = r.says;
-      action = Rest;
+      action = None;
       core = with_error (with_configure k (cond r.configures false k.configure)) (cond r.clears false k.error);
       areas = record {
         words = a.words;
@@ -177,14 +174,14 @@ answered Unanswered = false
 -- what the unit makes of an event: the answer, the output action, what is sent, all that is kept then, and what it changed in the files
 pub record Made : Type 0 where
   pub answer : Answer
-  pub action : Action
+  pub action : Option Operation
   pub sent : Sent
   pub inner : Inner
   pub change : Change
 
 -- nothing is sent, operated or changed in the files
 unfoldable pub quiet : Answer → Inner → Made
-quiet o i = record { answer = o; action = Rest; sent = silent; inner = i; change = stays }
+quiet o i = record { answer = o; action = None; sent = silent; inner = i; change = stays }
 
 -- what every frame for this unit does: a write of its master is dropped but by a WRITE taken; a reply clears bit 2 (Write 6; Frames 10)
 unfoldable pub settled : Request → Outcome → Core → Core
@@ -195,7 +192,7 @@ settled q o k =
 -- what a frame for this unit comes to, before it is settled and sent: its step, the reply remembered then, and what it changes in the files
 pub record Stepped : Type 0 where
   pub step : Step
-  pub memory : Memory
+  pub memory : Option HistoryReply
   pub change : Change
 
 -- a frame that found all that is kept as i (Frames 5, 9, 10)
@@ -229,13 +226,13 @@ telling i t =
 
 -- the select, its mark and the write are forgotten, and bit 7 is set
 unfoldable pub restarted : Core → Core
-restarted k = with_configure (with_write (with_hold k Free) NoWrite) true
+restarted k = with_configure (with_write (with_hold k Free) None) true
 
 -- 20h/00: with the latest history reply (Write 19, 20; paper 6.2)
 unfoldable pub initial_step : Inner → Request → Stepped
 initial_step i q =
     cond (counts 0 q)
-    (record { step = scanned (restarted i.core) i.areas (tells []); memory = Nothing; change = stays })
+    (record { step = scanned (restarted i.core) i.areas (tells []); memory = None; change = stays })
     (alone i (scanned i.core i.areas (refuses WrongCount)))
 
 -- function 20h (paper 6.1)
@@ -337,7 +334,7 @@ store_made i f r o =
     let ch = added_by o f (spared_in i.history.memory f) r in
     record {
       answer = Storing o;
-      action = Rest;
+      action = None;
       sent = silent;
       inner = record { core = noted_in o i.core; areas = i.areas; history = changed_by ch i.history.memory i.history };
       change = ch;
@@ -348,7 +345,7 @@ unfoldable pub sampled_made : Config → Inner → ℕ → Made
 sampled_made c i n =
     record {
       answer = Sampling (sampled_for c i.areas n);
-      action = Rest;
+      action = None;
       sent = silent;
       inner = record { core = i.core; areas = areas_sampled c i.areas n; history = i.history };
       change = takes (place_of c n) (taken_at c i.areas (place_of c n));

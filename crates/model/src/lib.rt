@@ -2,24 +2,31 @@
 // What is right to do with them stands in specs/. Areas and tables are lent as arrays and so have no type here.
 #![tactic(auto)]
 
+mod command;
+mod function;
+
 ghost use Rattle.std.specs.Prelude.{◌≡◌};
 ghost use Rattle.model.specs.Limits.{record_size};
-ghost use Rattle.model.specs.Control.{is_of, aged_of};
+ghost use Rattle.model.specs.Control.{aged_of};
+ghost use Rattle.model.specs.Outcome.{number_of};
 ghost use Rattle.model.specs.Tied.{limits_told};
+
+pub use command::{CalculationsCommand, ControlCommand, InternalCommand, ReturnCommand};
+pub use function::{Function, NoSuchCode};
 
 // ---- numbers: each subsystem's sequence numbers are a kind of their own
 
-#[derive(Clone, Copy)]
+#[derive(Clone, Copy, PartialEq, Eq)]
 pub struct Input(pub u8);
 
 // Contact 8g + i is at place i of group g, which is the input of that number.
-#[derive(Clone, Copy)]
+#[derive(Clone, Copy, PartialEq, Eq)]
 pub struct Contact(pub u8);
 
-#[derive(Clone, Copy)]
+#[derive(Clone, Copy, PartialEq, Eq)]
 pub struct ControlOutput(pub u8);
 
-#[derive(Clone, Copy)]
+#[derive(Clone, Copy, PartialEq, Eq)]
 pub struct SpecialCalculation(pub u8);
 
 impl SpecialCalculation {
@@ -30,22 +37,13 @@ impl SpecialCalculation {
     pub const SAMPLES: u16 = 256;
 }
 
-#[derive(Clone, Copy)]
+#[derive(Clone, Copy, PartialEq, Eq)]
 pub struct Master(pub u8);
 
-impl Master {
-    // The same master.
-    pub fn is(self, other: Master) -> bool
-        ensures { result ≡ is_of self other }
-    {
-        self.0 == other.0
-    }
-}
-
-#[derive(Clone, Copy)]
+#[derive(Clone, Copy, PartialEq, Eq)]
 pub struct Ordinal(pub u8);
 
-#[derive(Clone, Copy)]
+#[derive(Clone, Copy, PartialEq, Eq)]
 pub struct File(pub u8);
 
 impl File {
@@ -82,10 +80,10 @@ impl Frame {
         ensures { result ≡ record { address = address; function = function; command = command; count = count } }
     {
         Frame {
-            address: address,
-            function: function,
-            command: command,
-            count: count,
+            address,
+            function,
+            command,
+            count,
         }
     }
 }
@@ -117,7 +115,8 @@ impl Reply {
     pub const LONGEST: usize = 520;
 }
 
-// A table of the table area: if it is present, its nibbles, where its numbers start, and how many they are.
+// A table of the table area: if it is present, its nibbles, where its numbers start, and how many they are. It is no Option: of a table that
+// is not present the others are read as 0 (model:Tables.numbers_in_turn, model:Tables.scan_numbers).
 #[derive(Clone, Copy)]
 pub struct Table {
     pub present: bool,
@@ -129,7 +128,7 @@ pub struct Table {
 // ---- outcomes and answers
 
 // Outcomes 0 to 18, in their order.
-#[derive(Clone, Copy)]
+#[derive(Clone, Copy, PartialEq, Eq)]
 pub enum Outcome {
     Done,
     NotWhole,
@@ -152,8 +151,16 @@ pub enum Outcome {
     BufferShort,
 }
 
+impl From<Outcome> for u8 {
+    ghost from_gives = { λ outcome number. number ≡ number_of outcome };
+
+    fn from(outcome: Outcome) -> u8 {
+        outcome as u8
+    }
+}
+
 // How an outcome is answered.
-#[derive(Clone, Copy)]
+#[derive(Clone, Copy, PartialEq, Eq)]
 pub enum Sending {
     Normal,
     Nop,
@@ -162,7 +169,7 @@ pub enum Sending {
 }
 
 // How a master read a reply: normal, refused for one of five reasons in the order judged, NOP or RST.
-#[derive(Clone, Copy)]
+#[derive(Clone, Copy, PartialEq, Eq)]
 pub enum Read {
     Normal,
     NotWhole,
@@ -175,7 +182,7 @@ pub enum Read {
 }
 
 // How storing a record ended; one that was swapped is kept, and an older record of its file was dropped for it.
-#[derive(Clone, Copy)]
+#[derive(Clone, Copy, PartialEq, Eq)]
 pub enum Stored {
     Kept,
     Swapped,
@@ -184,7 +191,7 @@ pub enum Stored {
     WrongValues,
 }
 
-// What a sample came to: the mean, or how many samples are still missing.
+// What a sample came to: the mean, or how many samples are still missing. It is no Result: that some are missing is no failure.
 #[derive(Clone, Copy)]
 pub enum Sampled {
     Ready(f32),
@@ -206,11 +213,11 @@ pub struct Filled {
     pub count: u16,
 }
 
-// What the unit has its control outputs do.
-#[derive(Clone, Copy)]
-pub enum Action {
-    Rest,
-    Operate { output: ControlOutput, close: bool },
+// What the unit has a control output do.
+#[derive(Clone, Copy, PartialEq, Eq)]
+pub struct Operation {
+    pub output: ControlOutput,
+    pub close: bool,
 }
 
 // ---- what is kept
@@ -245,30 +252,23 @@ impl Select {
         ensures { result ≡ record { master = master; output = output; close = close; age = 0 } }
     {
         Select {
-            master: master,
-            output: output,
-            close: close,
+            master,
+            output,
+            close,
             age: 0,
         }
     }
 }
 
-// How old a select, or a write, is after some time: it lives, or its time is over.
-#[derive(Clone, Copy)]
-pub enum Age {
-    Lives(u16),
-    Over,
-}
-
-// An age out of range is over.
-pub fn aged(age: u16, ms: u32) -> Age
+// How old a select, or a write, is after some time, while it lives. An age out of range is over.
+pub fn aged(age: u16, ms: u32) -> Option<u16>
     ensures { result ≡ aged_of age ms }
 {
     let sum = age as u64 + ms as u64;
     if sum <= Select::HOLD as u64 {
-        return Age::Lives(sum as u16);
+        return Some(sum as u16);
     }
-    Age::Over
+    None
 }
 
 // The unit's one select, or the mark that its master's has timed out.
@@ -287,19 +287,13 @@ pub struct Write {
     pub age: u16,
 }
 
-// The unit's one write, if one waits.
-#[derive(Clone, Copy)]
-pub enum Pending {
-    NoWrite,
-    Waits(Write),
-}
-
-// Clock, select, write, and the status bits: 7 (to be configured), 3 (error: a file was full), 2 (a broadcast was heard).
+// Clock, select, the unit's one write if one waits, and the status bits: 7 (to be configured), 3 (error: a file was full), 2 (a broadcast was
+// heard).
 #[derive(Clone, Copy)]
 pub struct Core {
     pub clock: Clock,
     pub hold: Hold,
-    pub write: Pending,
+    pub write: Option<Write>,
     pub configure: bool,
     pub error: bool,
     pub broadcast: bool,
@@ -313,13 +307,6 @@ pub struct HistoryReply {
     pub dump: bool,
     pub quantity: u8,
     pub more: bool,
-}
-
-// The latest history reply, if it is remembered.
-#[derive(Clone, Copy)]
-pub enum Memory {
-    Nothing,
-    Remembered(HistoryReply),
 }
 
 // The head of a record: what happened, and the clock when it was stored.
@@ -338,21 +325,18 @@ impl Record {
     pub fn size(values: u8) -> usize
         ensures { result ≡ record_size values }
     {
-        Record::HEAD + 2 * (values as usize)
+        Record::HEAD + 2 * usize::from(values)
     }
 
     pub fn new(event: u8, clock: Clock) -> Record
         ensures { result ≡ record { event = event; clock = clock } }
     {
-        Record {
-            event: event,
-            clock: clock,
-        }
+        Record { event, clock }
     }
 }
 
 // Port 1's status: in order, silent for a minute or more, or damage was heard.
-#[derive(Clone, Copy)]
+#[derive(Clone, Copy, PartialEq, Eq)]
 pub enum Mark {
     Fine,
     Silent,

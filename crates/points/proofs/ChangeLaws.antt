@@ -1,9 +1,8 @@
 -- What the events on points and 20h/11h come to, case by case.
 -- Assumes nothing.
-use Rattle.std.proofs.Common.{◌≡◌, ℕ, ◌+◌, ◌%◌, ◌<◌, ◌≤◌, true, false, not, List, [], ◌∷◌, length, get_or, set, refl, arith, le-ltb, lt-ltb, eq-eqb, ne_eqb}
-use mathlib.Core.Bool.{and-false}
+use Rattle.std.proofs.Common.{◌≡◌, ℕ, ◌+◌, ◌%◌, true, false, List, [], ◌∷◌, length, get_or, set, refl, arith, eq-eqb, ne_eqb}
 use Rattle.model.specs.Frame.{Request}
-use Rattle.model.specs.Config.{has, two_bit, accumulator, has_calculation, Config, is_mean}
+use Rattle.model.specs.Config.{has, has_calculation, Config, is_mean}
 use Rattle.model.specs.Scan.{counts}
 use Rattle.model.specs.Inputs.{changes, unchanged, settable, has_accumulator, set_word_of, pulses_of, reset_count_of}
 use Rattle.model.specs.Means.{value_settable}
@@ -12,20 +11,6 @@ use Rattle.model.specs.Calculations.{set_value_of}
 use Rattle.model.specs.declared.Outcome.TheVariants.{NotValid, WrongCount}
 
 -- ---- events
-
--- which words an event may set
-module _ (n : ℕ) where
-  pub contacts_made : n < 32 → false ≡ settable n
-  unfolding settable two_bit
-  contacts_made h = simp (lt-ltb n 32 h, and-false (not (accumulator n)))
-
-  pub counts_made : accumulator n ≡ true → false ≡ settable n
-  unfolding settable
-  counts_made e = simp e
-
-  pub word-settable : 32 ≤ n → accumulator n ≡ false → true ≡ settable n
-  unfolding settable two_bit
-  word-settable h e = simp (e, le-ltb n 32 h)
 
 module _ (table words : List ℕ) (n v : ℕ) where
   pub word_set : has table n ≡ true → settable n ≡ true → set_word_of table words n v ≡ changes [] (set words n v)

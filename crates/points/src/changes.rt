@@ -15,23 +15,16 @@ use model::{Filled, Frame, Input, Outcome, Reply, SpecialCalculation};
 fn has_accumulator(unit: &[u8; UNIT], number: Input) -> bool
     ensures { result ≡ has_accumulator (config_in unit.now).inputs number.0 }
 {
-    if is_accumulator(number) {
-        has_input(unit, number)
-    } else {
-        false
-    }
+    is_accumulator(number) && has_input(unit, number)
 }
 
 pub fn set_word(unit: &mut [u8; UNIT], number: Input, word: u16) -> Outcome
     ensures { Sets (set_word_of (config_in unit.old).inputs (unit_in unit.old).words number.0 word)
         unit.old (put_word unit.old number.0 word) unit.new result }
 {
-    if has_input(unit, number) {
-        if is_settable(number) {
-            put_word(unit, number, word);
-            return Outcome::Done;
-        }
-        Outcome::NotValid
+    if has_input(unit, number) && is_settable(number) {
+        put_word(unit, number, word);
+        Outcome::Done
     } else {
         Outcome::NotValid
     }
@@ -44,7 +37,7 @@ pub fn pulses(unit: &mut [u8; UNIT], number: Input, count: u16) -> Outcome
         unit.new result }
 {
     if has_accumulator(unit, number) {
-        let sum = std::num::wrapping_add_u16(word_of(unit, number), count);
+        let sum = word_of(unit, number).wrapping_add(count);
         put_word(unit, number, sum);
         Outcome::Done
     } else {
@@ -57,10 +50,7 @@ pub fn set_value(unit: &mut [u8; UNIT], number: SpecialCalculation, value: u32) 
     ensures { Sets (set_value_of (config_in unit.old) (unit_in unit.old).values number.0 value)
         unit.old (put_value unit.old number.0 value) unit.new result }
 {
-    if has_calculation(unit, number) {
-        if place_of(unit, number) < SpecialCalculation::MEANS {
-            return Outcome::NotValid;
-        }
+    if has_calculation(unit, number) && place_of(unit, number).is_none() {
         put_value(unit, number, value);
         Outcome::Done
     } else {
@@ -80,10 +70,10 @@ pub fn reset_count<'a>(
     ensures unit_after { unit.new
         ≡ (if nat_eq (number_of result.outcome) 0 then put_word unit.old (slice_index body.now 0) 0 else unit.old) }
 {
-    if body.len() != 1 {
+    let &[number] = body else {
         return refused(Outcome::WrongCount);
-    }
-    let number = Input(body[0]);
+    };
+    let number = Input(number);
     if has_accumulator(unit, number) {
         put_word(unit, number, 0);
         chars::put_char(reply, Reply::HEAD, number.0);

@@ -10,52 +10,47 @@ use model::{Contact, Input, Outcome};
 
 // ---- bits
 
-fn bit_at(word: u16, place: u8) -> u16
+fn bit_at(word: u16, place: u8) -> bool
     requires { place < 16 }
-    ensures { (result ≡ bit_in word place) × (result < 2) }
+    ensures { result ≡ (bit_in word place == 1) }
 {
-    (word >> place) % 2
+    word >> place & 1 == 1
 }
 
-fn with_bit(word: u16, place: u8, bit: u16) -> u16
-    requires { (place < 16) × (bit < 2) }
-    ensures { result ≡ with_bit word place bit }
+fn with_bit(word: u16, place: u8, bit: bool) -> u16
+    requires { place < 16 }
+    ensures { result ≡ with_bit word place (cond bit 1 0) }
 {
-    let own = bit_at(word, place);
-    if own == bit {
-        return word;
-    }
-    let weight = 1u16 << place;
-    if own == 0 {
-        return word + weight;
-    }
-    word - weight
+    let weight = 1 << place;
+    if bit { word | weight } else { word & !weight }
 }
 
 // ---- a contact's state is given
 
 // The second change since the group's last reply sets the mark.
-fn word_after(word: u16, changed: u8, place: u8, state: u8) -> u16
-    requires { (place < 8) × (state < 2) }
-    ensures { result ≡ word_after word changed place state }
+fn word_after(word: u16, changed: u8, place: u8, state: bool) -> u16
+    requires { place < 8 }
+    ensures { result ≡ word_after word changed place (cond state 1 0) }
 {
-    if bit_at(word, place) == state as u16 {
+    if bit_at(word, place) == state {
         return word;
     }
-    if bit_at(changed as u16, place) == 1 {
-        return with_bit(with_bit(word, 8 + place, 1), place, state as u16);
-    }
-    with_bit(word, place, state as u16)
+    let marked = if bit_at(u16::from(changed), place) {
+        with_bit(word, 8 + place, true)
+    } else {
+        word
+    };
+    with_bit(marked, place, state)
 }
 
-fn changed_after(word: u16, changed: u8, place: u8, state: u8) -> u8
-    requires { (place < 8) × (state < 2) }
-    ensures { result ≡ changed_after word changed place state }
+fn changed_after(word: u16, changed: u8, place: u8, state: bool) -> u8
+    requires { place < 8 }
+    ensures { result ≡ changed_after word changed place (cond state 1 0) }
 {
-    if bit_at(word, place) == state as u16 {
+    if bit_at(word, place) == state {
         return changed;
     }
-    with_bit(changed as u16, place, 1) as u8
+    with_bit(u16::from(changed), place, true) as u8
 }
 
 // A group that is not equipped, and a state that is none, are refused.
@@ -69,21 +64,14 @@ pub fn contact(unit: &mut [u8; UNIT], contact: Contact, state: u8) -> Outcome
         (changed_after (slice_index (unit_in unit.old).words (contact.0 / 8)) (slice_index (unit_in unit.old).changed (contact.0 / 8)) (contact.0 % 8) state))
         unit.old }
 {
-    let group = contact.0 / 8;
+    let group = Input(contact.0 / 8);
     let place = contact.0 % 8;
-    if has_input(unit, Input(group)) {
-        if state < 2 {
-            let word = word_of(unit, Input(group));
-            let changed = changed_of(unit, Input(group));
-            put_word(unit, Input(group), word_after(word, changed, place, state));
-            put_changed(
-                unit,
-                Input(group),
-                changed_after(word, changed, place, state),
-            );
-            return Outcome::Done;
-        }
-        Outcome::NotValid
+    if has_input(unit, group) && state < 2 {
+        let word = word_of(unit, group);
+        let changed = changed_of(unit, group);
+        put_word(unit, group, word_after(word, changed, place, state == 1));
+        put_changed(unit, group, changed_after(word, changed, place, state == 1));
+        Outcome::Done
     } else {
         Outcome::NotValid
     }
@@ -95,12 +83,9 @@ pub fn contact(unit: &mut [u8; UNIT], contact: Contact, state: u8) -> Outcome
 pub fn start_anew(unit: &mut [u8; UNIT], number: Input)
     ensures { Anew unit.old unit.new (group_in (config_in unit.old).inputs number.0) }
 {
-    chars::told_long(unit);
-    if number.0 < 32 {
-        if has_input(unit, number) {
-            let word = word_of(unit, number);
-            put_word(unit, number, word % 256);
-            put_changed(unit, number, 0);
-        }
+    if number.0 < 32 && has_input(unit, number) {
+        let word = word_of(unit, number);
+        put_word(unit, number, word % 256);
+        put_changed(unit, number, 0);
     }
 }

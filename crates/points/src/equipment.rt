@@ -6,29 +6,21 @@ ghost use Rattle.points.specs.Answer.{no_data};
 
 use model::{Filled, Input, Outcome};
 
-pub fn refused(o: Outcome) -> Filled
-    ensures { result ≡ no_data o }
+pub fn refused(outcome: Outcome) -> Filled
+    ensures { result ≡ no_data outcome }
 {
-    Filled {
-        outcome: o,
-        count: 0,
-    }
+    Filled { outcome, count: 0 }
 }
 
 pub fn is_accumulator(number: Input) -> bool
     ensures { result ≡ accumulator number.0 }
 {
-    let n = number.0;
-    if 0x40 <= n { n <= 0x5F } else { false }
+    (0x40..=0x5F).contains(&number.0)
 }
 
 // No count, and no two-bit word, which its contacts make.
 pub fn is_settable(number: Input) -> bool
     ensures { result ≡ settable number.0 }
 {
-    let n = number.0;
-    if n < 0x20 {
-        return false;
-    }
-    if is_accumulator(number) { false } else { true }
+    0x20 <= number.0 && !is_accumulator(number)
 }

@@ -2,39 +2,35 @@
 // that every pattern of what it takes means something.
 #![tactic(auto)]
 
-ghost use Rattle.std.specs.Prelude.{◌≡◌, [], ◌∷◌, cond, not, length, get_or, eqb};
+ghost use Rattle.std.specs.Prelude.{◌≡◌, cond, not, length, get_or, eqb};
 ghost use Rattle.chars.specs.Put.{put};
 ghost use Rattle.master.specs.Polled.{retry_at};
 ghost use Rattle.master.specs.Built.{begun, memory_built, frame_built, Lays};
 ghost use Rattle.master.specs.Taken.{joined, memory_taken, records_read, taken_of};
-ghost use Rattle.poll.specs.Read.{read_number, reading_number};
+ghost use Rattle.poll.specs.Read.{kept_chars, reading_number};
 
-use master::{POLL, Reading};
-use model::Read;
+use master::{POLL, Refusal, Taken};
 
-// How a reply was read, in the numbers that a caller in C reads.
-fn read_number(read: Read) -> u8
-    ensures { result ≡ read_number read }
+// How a reply was read, or why none was, in the numbers that a caller in C reads.
+#[tactic(auto, unfolding(crate::specs::Read::read_number, crate::specs::Read::reading_number))]
+fn reading_number(taken: Result<Taken, Refusal>) -> u8
+    ensures { result ≡ reading_number taken }
 {
-    match read {
-        Read::Normal => 0,
-        Read::NotWhole => 1,
-        Read::CheckWrong => 2,
-        Read::OtherAddress => 3,
-        Read::OtherFunction => 4,
-        Read::NoSuchData => 5,
-        Read::Nop => 6,
-        Read::Rst => 7,
+    match taken {
+        Ok(taken) => taken.read as u8,
+        Err(Refusal::NotConfigured) => 17,
+        Err(Refusal::RoomShort) => 18,
     }
 }
 
-fn reading_number(reading: Reading) -> u8
-    ensures { result ≡ reading_number reading }
+// How many records were kept, and how many characters each has; none where no reply was read.
+#[tactic(auto, unfolding(crate::specs::Read::kept_chars))]
+fn kept_chars(taken: Result<Taken, Refusal>) -> [u8; 2]
+    ensures { result ≡ kept_chars taken }
 {
-    match reading {
-        Reading::Judged(read) => read_number(read),
-        Reading::NotConfigured => 17,
-        Reading::RoomShort => 18,
+    match taken {
+        Ok(taken) => [taken.count, taken.size],
+        Err(_) => [0, 0],
     }
 }
 
@@ -61,7 +57,7 @@ pub extern "C" fn osturdam_poll_ask(
         (frame_built poll.old (length buffer.old) room (record { all = not (eqb all 0); function = function; command = command; body = body.now }))
         (memory_built poll.old (length buffer.old) room (record { all = not (eqb all 0); function = function; command = command; body = body.now })) }
 {
-    let every = !(all == 0);
+    let every = all != 0;
     master::build(poll, room as usize, every, function, command, body, buffer) as u64
 }
 
@@ -73,18 +69,14 @@ pub extern "C" fn osturdam_poll_read(
     room: &mut [u8],
     kept: &mut [u8; 2],
 ) -> u8
-    ensures { (result ≡ reading_number (taken_of poll.old reply.now (length room.old)).reading)
+    ensures { (result ≡ reading_number (taken_of poll.old reply.now (length room.old)))
         × (poll.new ≡ memory_taken poll.old reply.now (length room.old))
         × (room.new ≡ put room.old 0 (joined (records_read poll.old reply.now (length room.old))))
-        × (kept.new ≡ (taken_of poll.old reply.now (length room.old)).count
-        ∷ (taken_of poll.old reply.now (length room.old)).size ∷ []) }
+        × (kept.new ≡ kept_chars (taken_of poll.old reply.now (length room.old))) }
 {
     let taken = master::read(poll, reply, room);
-    let reading = taken.reading;
-    let count = taken.count;
-    let size = taken.size;
-    *kept = [count, size];
-    reading_number(reading)
+    *kept = kept_chars(taken);
+    reading_number(taken)
 }
 
 // 1 where the reply before was not believed.
@@ -92,8 +84,5 @@ pub extern "C" fn osturdam_poll_read(
 pub extern "C" fn osturdam_poll_retry(poll: &[u8; POLL]) -> u8
     ensures { result ≡ cond (eqb (get_or poll.now retry_at 0) 1) 1 0 }
 {
-    if master::retry(poll) {
-        return 1;
-    }
-    0
+    u8::from(master::retry(poll))
 }

@@ -1,5 +1,5 @@
-// The port's one rule, for elapsed time and for a stretch: by value, over a port that is lent, and over the port of a unit's memory, which
-// is taken from there, lent, and put back.
+// The port's one rule, for elapsed time and for a stretch: over a port that is lent, and over the port of a unit's memory, which is taken from
+// there, lent, and put back.
 #![tactic(auto)]
 
 ghost use Rattle.std.specs.Prelude.{◌≡◌};
@@ -12,64 +12,40 @@ use frames::outcomes::{is_answered, is_damaged};
 use layout::{UNIT, keep_port, port_in};
 use model::{Mark, Outcome, Port};
 
-// ---- by value
+// ---- lent
 
 // The count stays where the port counts as silent.
-fn silent_after(port: Port, ms: u32) -> Port
-    ensures { result ≡ silent_after port ms }
+fn waited(port: &mut Port, ms: u32)
+    ensures { port.new ≡ silent_after port.old ms }
 {
-    let mark = port.mark;
-    let t = port.silence as u64 + ms as u64;
-    if Port::SILENT as u64 <= t {
-        return Port {
-            silence: Port::SILENT,
-            mark: Mark::Silent,
-        };
+    let limit = u32::from(Port::SILENT);
+    let silence = u32::from(port.silence).saturating_add(ms);
+    if limit <= silence {
+        port.mark = Mark::Silent;
     }
-    Port {
-        silence: t as u16,
-        mark: mark,
-    }
+    port.silence = silence.min(limit) as u16;
 }
 
 fn mark_after(mark: Mark, ended: Outcome) -> Mark
     ensures { result ≡ mark_after mark ended }
 {
     if is_answered(ended) {
-        return Mark::Fine;
+        Mark::Fine
+    } else if is_damaged(ended) {
+        Mark::Damaged
+    } else {
+        mark
     }
-    if is_damaged(ended) {
-        return Mark::Damaged;
-    }
-    mark
 }
 
 // A stretch of so many characters.
-fn heard_after(port: Port, length: usize, ended: Outcome) -> Port
-    ensures { result ≡ port_heard_by port length ended }
-{
-    if length == 0 {
-        return port;
-    }
-    let mark = port.mark;
-    Port {
-        silence: 0,
-        mark: mark_after(mark, ended),
-    }
-}
-
-// ---- lent
-
-fn waited(port: &mut Port, ms: u32)
-    ensures { port.new ≡ silent_after port.old ms }
-{
-    *port = silent_after(*port, ms);
-}
-
 fn heard(port: &mut Port, length: usize, ended: Outcome)
     ensures { port.new ≡ port_heard_by port.old length ended }
 {
-    *port = heard_after(*port, length, ended);
+    if length != 0 {
+        port.silence = 0;
+        port.mark = mark_after(port.mark, ended);
+    }
 }
 
 // ---- in a unit's memory

@@ -1,5 +1,6 @@
 -- The WRITE of a pair ahead of its EXECUTE: kept where it is taken, it is what the whole frame leaves, and 5 is its answer nowhere else.
 -- Assumes nothing.
+use Rattle.std.specs.Prelude.{None}
 use mathlib.Core.Path.{◌≡◌, refl, sym, ap, ◌∙◌}
 use Prim.Native.Nat.{ℕ, ◌+◌, ◌-◌, ◌≤◌}
 use mathlib.Core.List.{List}
@@ -17,7 +18,6 @@ use Rattle.model.specs.Control.{breaks}
 use Rattle.model.specs.Blocks.{write_of}
 use Rattle.model.specs.Step.{Made, Stepped, scanned, written, answered, settled, finished, alone, broken_off, step_of, areas_left, served, framed}
 use Rattle.model.specs.declared.Outcome.TheVariants.{WriteTaken}
-use Rattle.model.specs.declared.Action.TheVariants.{Rest}
 use Rattle.model.specs.declared.Answer.TheVariants.{Ended}
 use Rattle.model.specs.declared.Frame.{Frame}
 use Rattle.model.proofs.Pairs.{framed-own as own-framed, write-taken}
@@ -70,8 +70,8 @@ module _ (c : Config) (i : Inner) (lag : ℕ) (f : Frame) (s : List ℕ) {body :
       outcome_as = answers ∙ ap (λ (m : Stepped). number_of m.step.says.outcome) wrote ∙ ap number_of (sym w.ended)
 
       -- 15
-      pub ahead-held : (number_of r.outcome ≡ 5 → ⊥) → Refused
-      ahead-held k = ne_eqb _ 5 (λ e. k (sym outcome_as ∙ e))
+      pub ahead-held : eqb (number_of r.outcome) 5 ≡ false → Refused
+      ahead-held k = ap (λ (n : ℕ). eqb n 5) outcome_as ∙ k
 
       pub outcome-taken : number_of r.outcome ≡ 5 → r.outcome ≡ WriteTaken
       unfolding request_in finished written alone
@@ -89,7 +89,7 @@ pub ahead-taken : (u v w block area entry : List ℕ) (lag : ℕ) (f : Frame) (s
     → WritesAs (write_of (core_in (numbers_in u)).write (asked f body)) r → r.outcome ≡ WriteTaken
     → Renumbered u v (put_write (write_numbers r.write) (numbers_in u)) × (write_in (write_numbers r.write) ≡ r.write)
     → Renumbered v w (put_port (port_heard_by (port_in (numbers_in v)) (length s) r.outcome) (numbers_in v)) → longest_reply ≤ length entry
-    → FramedPromise lag f s (owned_of u block area) (owned_of w block area) entry entry (record { outcome = WriteTaken; action = Rest; sent = 0 })
+    → FramedPromise lag f s (owned_of u block area) (owned_of w block area) entry entry (record { outcome = WriteTaken; action = None; sent = 0 })
 unfolding settled served finished answered
 ahead-taken u v w block area entry lag f s {body} r n d function command own b writes taken kept heard long =
     let i = inner_in u block area in

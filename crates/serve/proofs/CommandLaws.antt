@@ -1,4 +1,5 @@
 -- Functions 20h and 28h by command: the step that each comes to, and how what a function hands back makes that step. Assumes nothing.
+use Rattle.std.specs.Prelude.{None}
 use mathlib.Core.Path.{◌≡◌, refl, sym, ap, ◌∙◌}
 use Prim.Native.Nat.{ℕ}
 use mathlib.Core.List.{List, []}
@@ -32,6 +33,7 @@ use Rattle.model.specs.Step.{
   written,
   executed,
   internal_of,
+  broadcast_of,
   return_of,
   restarted,
   Stepped,
@@ -41,10 +43,8 @@ use Rattle.model.specs.Step.{
 }
 use Rattle.model.specs.declared.Outcome.{Outcome}
 use Rattle.model.specs.declared.Outcome.TheVariants.{Done, Unknown, WrongCount}
-use Rattle.model.specs.declared.Action.TheVariants.{Rest}
 use Rattle.model.specs.declared.Filled.{Filled}
 use Rattle.model.specs.declared.Core.{Core}
-use Rattle.model.specs.declared.Memory.TheVariants.{Nothing}
 use Rattle.model.proofs.Conditions.{by_bool}
 use Rattle.model.proofs.PlanLaws.{plans-long}
 use Rattle.points.proofs.MeansLaws.{sets_long, reset_sets, reset-count-means}
@@ -57,7 +57,7 @@ use Rattle.layout.specs.Kept.{areas_by, areas_in}
 use Rattle.model.specs.declared.Port.{Port}
 use Rattle.layout.specs.Numbers.{Written as Kept}
 use Rattle.serve.specs.declared.step.Step.{Step}
-use Rattle.serve.specs.Promises.{Tame, StepPromise, Unshifted}
+use Rattle.serve.specs.Promises.{Tame, StepPromise, common_of, Unshifted}
 use Rattle.serve.proofs.KeptLaws.{steady-means, steady-same, steady_then}
 use Rattle.serve.proofs.TameLaws.{mute, bare_tame}
 
@@ -69,15 +69,30 @@ planned_anew table a b =
 
 -- ---- which step
 
+module _ (c : Config) (k : Core) (a : Areas) (lag : ℕ) (q : Request) where
+  -- what a broadcast knows too
+  pub common_reset : q.command ≡ 0x11 → common_of c k a lag q ≡ changed k a (points.reset_count_of c.inputs a.words q)
+  common_reset e = simp e
+
+  pub common_time : q.command ≡ 0x38 → common_of c k a lag q ≡ timed k a (set_time_of lag k.clock q)
+  common_time e = simp e
+
+  pub common_unknown : (q.command ≡ 0x11 → ⊥) → (q.command ≡ 0x38 → ⊥) → common_of c k a lag q ≡ scanned k a (refuses Unknown)
+  common_unknown f₀ f₁ = simp (ne_eqb _ _ f₀, ne_eqb _ _ f₁)
+
+  pub broadcast_common : q.function ≡ 0x20 → broadcast_of c k a lag q ≡ common_of c k a lag q
+  unfolding broadcast_of
+  broadcast_common e = simp e
+
+  pub broadcast_not : (q.function ≡ 0x20 → ⊥) → broadcast_of c k a lag q ≡ scanned k a (refuses Unknown)
+  unfolding broadcast_of
+  broadcast_not n = simp (ne_eqb _ _ n)
+
 module _ (c : Config) (i : Inner) (lag : ℕ) (q : Request) where
   -- function 20h by command
   pub internal_initial : q.command ≡ 0x00 → internal_step c i lag q ≡ initial_step i q
   unfolding internal_step
   internal_initial e = simp e
-
-  pub internal_reset : q.command ≡ 0x11 → internal_step c i lag q ≡ alone i (changed i.core i.areas (points.reset_count_of c.inputs i.areas.words q))
-  unfolding internal_step internal_of
-  internal_reset e = simp e
 
   pub internal_write : q.command ≡ 0x30 → internal_step c i lag q ≡ alone i (written i.core i.areas (blocks.write_of i.core.write q))
   unfolding internal_step internal_of
@@ -87,14 +102,10 @@ module _ (c : Config) (i : Inner) (lag : ℕ) (q : Request) where
   unfolding internal_step internal_of
   internal_execute e = simp e
 
-  pub internal_time : q.command ≡ 0x38 → internal_step c i lag q ≡ alone i (timed i.core i.areas (set_time_of lag i.core.clock q))
+  pub internal_common : (q.command ≡ 0x00 → ⊥) → (q.command ≡ 0x30 → ⊥) → (q.command ≡ 0x31 → ⊥)
+      → internal_step c i lag q ≡ alone i (common_of c i.core i.areas lag q)
   unfolding internal_step internal_of
-  internal_time e = simp e
-
-  pub internal_unknown : (q.command ≡ 0x00 → ⊥) → (q.command ≡ 0x11 → ⊥) → (q.command ≡ 0x30 → ⊥) → (q.command ≡ 0x31 → ⊥) → (q.command ≡ 0x38 → ⊥)
-      → internal_step c i lag q ≡ alone i (scanned i.core i.areas (refuses Unknown))
-  unfolding internal_step internal_of
-  internal_unknown f₀ f₁ f₂ f₃ f₄ = simp (ne_eqb _ _ f₀, ne_eqb _ _ f₁, ne_eqb _ _ f₂, ne_eqb _ _ f₃, ne_eqb _ _ f₄)
+  internal_common f₀ f₁ f₂ = simp (ne_eqb _ _ f₀, ne_eqb _ _ f₁, ne_eqb _ _ f₂)
 
   -- it leaves the files
   pub internal_stays : (internal_step c i lag q).change ≡ stays
@@ -124,7 +135,7 @@ module _ (i : Inner) (q : Request) where
 
 module _ (i : Inner) {m : Stepped} {a : Areas} {p : Port} {ls entry exit : List ℕ} {r : Step} where
   pub acts_scan : {x : Scan} (f : Filled) → Tame x.outcome x.chars → m ≡ alone i (scanned i.core i.areas x) → Fills entry exit x f
-      → r ≡ record { outcome = f.outcome; action = Rest; count = f.count } → Kept i.core i.history.memory p ls → a ≡ i.areas
+      → r ≡ record { outcome = f.outcome; action = None; count = f.count } → Kept i.core i.history.memory p ls → a ≡ i.areas
       → StepPromise m a p ls entry exit r
   unfolding alone scanned
   acts_scan f t z w e k y =
@@ -132,7 +143,7 @@ module _ (i : Inner) {m : Stepped} {a : Areas} {p : Port} {ls entry exit : List 
 
   -- no data, with this core
   pub acts-refused : {k : Core} {o : Outcome} → m ≡ alone i (scanned k i.areas (refuses o)) → exit ≡ entry
-      → r ≡ record { outcome = o; action = Rest; count = 0 } → Kept k i.history.memory p ls → a ≡ i.areas
+      → r ≡ record { outcome = o; action = None; count = 0 } → Kept k i.history.memory p ls → a ≡ i.areas
       → StepPromise m a p ls entry exit r
   unfolding alone scanned
   acts-refused z x e k y =
@@ -141,7 +152,7 @@ module _ (i : Inner) {m : Stepped} {a : Areas} {p : Port} {ls entry exit : List 
 
   -- 20h/11h changes the words
   pub acts-changed : {x : points.Changed} (f : Filled) → Tame x.says.outcome x.says.chars → m ≡ alone i (changed i.core i.areas x) → Fills entry exit x.says f
-      → r ≡ record { outcome = f.outcome; action = Rest; count = f.count } → Kept i.core i.history.memory p ls → a ≡ with_words i.areas x.area
+      → r ≡ record { outcome = f.outcome; action = None; count = f.count } → Kept i.core i.history.memory p ls → a ≡ with_words i.areas x.area
       → StepPromise m a p ls entry exit r
   unfolding alone changed
   acts-changed f t z w e k y =
@@ -150,7 +161,7 @@ module _ (i : Inner) {m : Stepped} {a : Areas} {p : Port} {ls entry exit : List 
 
   -- 20h/30h
   pub acts-written : {x : blocks.WriteResult} (f : Written) → x.says.chars ≡ [] → m ≡ alone i (written i.core i.areas x) → WritesAs x f → exit ≡ entry
-      → r ≡ record { outcome = f.outcome; action = Rest; count = 0 } → Kept (with_write i.core f.write) i.history.memory p ls → a ≡ i.areas
+      → r ≡ record { outcome = f.outcome; action = None; count = 0 } → Kept (with_write i.core f.write) i.history.memory p ls → a ≡ i.areas
       → StepPromise m a p ls entry exit r
   unfolding alone written
   acts-written f bare z w x e k y =
@@ -161,7 +172,7 @@ module _ (i : Inner) {m : Stepped} {a : Areas} {p : Port} {ls entry exit : List 
   -- 20h/31h
   pub acts-executed : (table : List ℕ) {x : blocks.Executed} {u v bl : List ℕ} (f : Executed) → x.says.chars ≡ [] → m ≡ alone i (executed table i.core i.areas x)
       → ExecutesAs u x v bl f → exit ≡ entry
-      → r ≡ record { outcome = f.outcome; action = Rest; count = 0 }
+      → r ≡ record { outcome = f.outcome; action = None; count = 0 }
       → Kept (with_error (with_configure i.core (cond f.configures false i.core.configure)) (cond f.clears false i.core.error)) i.history.memory p ls
       → a ≡ planned_anew table (record { words = i.areas.words; values = i.areas.values; fixed = x.fixed; block = bl; changed = i.areas.changed; samples = i.areas.samples; plans = i.areas.plans }) f.configures
       → StepPromise m a p ls entry exit r
@@ -181,7 +192,7 @@ module _ (i : Inner) {m : Stepped} {a : Areas} {p : Port} {ls entry exit : List 
 
   -- 20h/38h
   pub acts-timed : {x : Timed} {o : Outcome} → x.says.chars ≡ [] → m ≡ alone i (timed i.core i.areas x) → o ≡ x.says.outcome → exit ≡ entry
-      → r ≡ record { outcome = o; action = Rest; count = 0 } → Kept (with_clock i.core x.clock) i.history.memory p ls → a ≡ i.areas
+      → r ≡ record { outcome = o; action = None; count = 0 } → Kept (with_clock i.core x.clock) i.history.memory p ls → a ≡ i.areas
       → StepPromise m a p ls entry exit r
   unfolding alone timed
   acts-timed bare z w x e k y =
@@ -191,8 +202,8 @@ module _ (i : Inner) {m : Stepped} {a : Areas} {p : Port} {ls entry exit : List 
 
   -- 20h/00
   pub acts_initial : (q : Request) → m ≡ initial_step i q → exit ≡ entry
-      → r ≡ record { outcome = cond (eqb (length q.body) 0) Done WrongCount; action = Rest; count = 0 }
-      → Kept (cond (eqb (length q.body) 0) (restarted i.core) i.core) (cond (eqb (length q.body) 0) Nothing i.history.memory) p ls
+      → r ≡ record { outcome = cond (eqb (length q.body) 0) Done WrongCount; action = None; count = 0 }
+      → Kept (cond (eqb (length q.body) 0) (restarted i.core) i.core) (cond (eqb (length q.body) 0) None i.history.memory) p ls
       → a ≡ i.areas → StepPromise m a p ls entry exit r
   unfolding initial_step alone scanned counts
   acts_initial q z x e k y =

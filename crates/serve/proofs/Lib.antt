@@ -1,5 +1,6 @@
 -- The laws that the proofs of this crate and of its users cite.
 pub mod KeptLaws
+pub mod OutcomeLaws
 pub mod FitLaws
 pub mod EndingLaws
 pub mod TameLaws

@@ -1,4 +1,5 @@
 -- A stretch: what its parts made, put together. Assumes nothing.
+use Rattle.std.specs.Prelude.{None}
 use native.Mathlib.Omega.{arith}
 use mathlib.Core.Path.{◌≡◌, refl, sym, ap, ◌∙◌}
 use Prim.Native.Nat.{ℕ, ◌+◌, ◌-◌, ◌≤◌, ◌<◌}
@@ -19,7 +20,6 @@ use Rattle.model.specs.Change.{stays, Change}
 use Rattle.model.specs.Run.{short, Result, turned_away, shows, moves, decided, result_of, next_of, change_of}
 use Rattle.model.specs.declared.Outcome.{Outcome}
 use Rattle.model.specs.declared.Outcome.TheVariants.{NotWhole, CheckWrong, OtherUnit, NotConfigured, BufferShort}
-use Rattle.model.specs.declared.Action.TheVariants.{Rest}
 use Rattle.model.specs.declared.Frame.{Frame}
 use Rattle.model.specs.declared.Heard.TheVariants.{Broken, Wrong, Whole}
 use Rattle.model.specs.declared.Mark.{Mark}
@@ -59,12 +59,12 @@ request_as s f h b = ap (asked f) (sym (frame_data s f h b))
 
 module _ (c : Config) (i : Inner) (lag : ℕ) (s : List ℕ) (mark : Mark) (p : Port) {area held entry : List ℕ} {x : MadeOf} where
   module _ {ks : List ℕ} (k : Written i.core i.history.memory p ks) where
-    pub judged_broken : heard_of s ≡ Broken → x ≡ record { outcome = NotWhole; action = Rest; sent = 0 }
+    pub judged_broken : heard_of s ≡ Broken → x ≡ record { outcome = NotWhole; action = None; sent = 0 }
         → MadeInPromise c (judged c i lag s (heard_of s)) mark i.areas i.history.files p ks area held area held entry entry x
     unfolding judged quiet
     judged_broken h e = rw h (record { makes = makes-quiet i mark entry NotWhole e k; changed = still c area held })
 
-    pub judged_wrong : heard_of s ≡ Wrong → x ≡ record { outcome = CheckWrong; action = Rest; sent = 0 }
+    pub judged_wrong : heard_of s ≡ Wrong → x ≡ record { outcome = CheckWrong; action = None; sent = 0 }
         → MadeInPromise c (judged c i lag s (heard_of s)) mark i.areas i.history.files p ks area held area held entry entry x
     unfolding judged quiet
     judged_wrong h e = rw h (record { makes = makes-quiet i mark entry CheckWrong e k; changed = still c area held })
@@ -95,7 +95,7 @@ module _ (c : Config) (i : Inner) (lag : ℕ) (s : List ℕ) (mark : Mark) (p : 
 
     -- for another
     pub framed-other : {ks : List ℕ} → Written i.core i.history.memory p ks → (to ≡ c.unit → ⊥) → (to ≡ 0x7FF → ⊥)
-        → x ≡ record { outcome = OtherUnit; action = Rest; sent = 0 }
+        → x ≡ record { outcome = OtherUnit; action = None; sent = 0 }
         → MadeInPromise c (framed c i lag (request_in f s)) mark i.areas i.history.files p ks area held area held entry entry x
     unfolding framed request_in quiet
     framed-other k l m e =
@@ -107,7 +107,7 @@ module _ (c : Config) (i : Inner) (lag : ℕ) (s : List ℕ) (mark : Mark) (p : 
 module _ (c : Config) (lag : ℕ) (s : List ℕ) (k : Kept) (entry : List ℕ) {r : MadeOf} where
   -- turned away by o, and nothing is changed
   turned : (o : Outcome) → (result_of c (state_of c k) (coming entry lag s) ≡ turned_away o) × (next_of c (state_of c k) (coming entry lag s) ≡ state_of c k)
-      → change_of c (state_of c k) (coming entry lag s) ≡ stays → r ≡ record { outcome = o; action = Rest; sent = 0 } → Turns c lag s k k entry entry r
+      → change_of c (state_of c k) (coming entry lag s) ≡ stays → r ≡ record { outcome = o; action = None; sent = 0 } → Turns c lag s k k entry entry r
   unfolding turned_away taken_after
   turned o w z e =
       rw e
@@ -124,14 +124,14 @@ module _ (c : Config) (lag : ℕ) (s : List ℕ) (k : Kept) (entry : List ℕ) {
       })
 
   pub turns-short : length entry < longest_reply
-      → r ≡ record { outcome = BufferShort; action = Rest; sent = 0 } → Turns c lag s k k entry entry r
+      → r ≡ record { outcome = BufferShort; action = None; sent = 0 } → Turns c lag s k k entry entry r
   unfolding short change_of decided
   turns-short l e =
       let t : short (coming entry lag s) ≡ true = lt-ltb (length entry) longest_reply l in
       turned BufferShort (short_away c (state_of c k) (coming entry lag s) t) (rw t) e
 
   pub turns_unfit : longest_reply ≤ length entry → fits c (state_of c k) ≡ false
-      → r ≡ record { outcome = NotConfigured; action = Rest; sent = 0 } → Turns c lag s k k entry entry r
+      → r ≡ record { outcome = NotConfigured; action = None; sent = 0 } → Turns c lag s k k entry entry r
   unfolding short change_of decided
   turns_unfit l b e =
       let t : short (coming entry lag s) ≡ false = le-ltb (length entry) longest_reply l in
@@ -141,7 +141,7 @@ module _ (c : Config) (lag : ℕ) (s : List ℕ) (k : Kept) (entry : List ℕ) {
 
 module _ (lag : ℕ) (s : List ℕ) (x : Owned) (entry : List ℕ) {r : MadeOf} where
   -- 18 whatever is lent
-  pub stretch-short : length entry < longest_reply → r ≡ record { outcome = BufferShort; action = Rest; sent = 0 } → StretchPromise lag s x x entry entry r
+  pub stretch-short : length entry < longest_reply → r ≡ record { outcome = BufferShort; action = None; sent = 0 } → StretchPromise lag s x x entry entry r
   stretch-short l e =
       record {
         read = λ t. record { turns = turns-short (config_in x.unit) lag s (kept_in x) entry l e; stand = t; steady = (steady-same x.unit).steady };
@@ -150,7 +150,7 @@ module _ (lag : ℕ) (s : List ℕ) (x : Owned) (entry : List ℕ) {r : MadeOf} 
 
   -- 17 where it is not such as a unit that fits writes
   pub stretch_unfit : longest_reply ≤ length entry → (standing x ≡ true → fits (config_in x.unit) (state_of (config_in x.unit) (kept_in x)) ≡ false)
-      → r ≡ record { outcome = NotConfigured; action = Rest; sent = 0 } → StretchPromise lag s x x entry entry r
+      → r ≡ record { outcome = NotConfigured; action = None; sent = 0 } → StretchPromise lag s x x entry entry r
   stretch_unfit l b e =
       record {
         read = λ t. record { turns = turns_unfit (config_in x.unit) lag s (kept_in x) entry l (b t) e; stand = t; steady = (steady-same x.unit).steady };

@@ -34,10 +34,9 @@ use Rattle.model.specs.History.{Told, file_of, dumps, acknowledges, untold, hist
 use Rattle.model.specs.declared.Hold.{Hold}
 use Rattle.model.specs.declared.Hold.TheVariants.{Free, Held, TimedOut}
 use Rattle.model.specs.declared.Master.{Master}
-use Rattle.model.specs.declared.Pending.{Pending}
-use Rattle.model.specs.declared.Pending.TheVariants.{NoWrite, Waits}
-use Rattle.model.specs.declared.Memory.{Memory}
-use Rattle.model.specs.declared.Memory.TheVariants.{Nothing, Remembered}
+use Rattle.std.specs.Prelude.{None, Option, Some}
+use Rattle.model.specs.declared.Write.{Write}
+use Rattle.model.specs.declared.HistoryReply.{HistoryReply}
 use Rattle.inputs.proofs.Fits.{inputs_fit}
 use Rattle.tables.proofs.Fits.{planned_fit}
 use Rattle.calculations.proofs.Fits.{calculations_fit}
@@ -98,27 +97,27 @@ reset-tame table words q =
 BareWrite : WriteResult → Type 0
 BareWrite x = x.says.chars ≡ []
 
-write_when_bare : (p : Pending) (m : Master) (bias o : ℕ) → BareWrite (write_when p m bias o)
+write_when_bare : (p : Option Write) (m : Master) (bias o : ℕ) → BareWrite (write_when p m bias o)
 unfolding BareWrite write_when waits_for
-write_when_bare NoWrite m bias o = refl
-write_when_bare (Waits w) m bias o = by_cond BareWrite (is_of w.master m) (λ e. refl) (λ e. refl)
+write_when_bare None m bias o = refl
+write_when_bare (Some w) m bias o = by_cond BareWrite (is_of w.master m) (λ e. refl) (λ e. refl)
 
-pub write_bare : (p : Pending) (q : Request) → (write_of p q).says.chars ≡ []
+pub write_bare : (p : Option Write) (q : Request) → (write_of p q).says.chars ≡ []
 unfolding BareWrite write_of
 write_bare p q = by_cond BareWrite (counts 3 q) (λ e. write_when_bare p _ _ _) (λ e. refl)
 
 BareExecute : Executed → Type 0
 BareExecute x = x.says.chars ≡ []
 
-execute_when_bare : (p : Pending) (fixed block : List ℕ) (q : Request) → BareExecute (execute_when p fixed block q)
+execute_when_bare : (p : Option Write) (fixed block : List ℕ) (q : Request) → BareExecute (execute_when p fixed block q)
 unfolding BareExecute execute_when executes not_executed
-execute_when_bare NoWrite fixed block q = refl
-execute_when_bare (Waits w) fixed block q =
+execute_when_bare None fixed block q = refl
+execute_when_bare (Some w) fixed block q =
     by_cond BareExecute (is_of w.master (master_of q.address))
     (λ e. by_cond BareExecute (reaches fixed block w.ordinal.0 w.bias (length q.body)) (λ e. refl) (λ e. refl))
     (λ e. refl)
 
-pub execute_bare : (p : Pending) (fixed block : List ℕ) (q : Request) → (execute_of p fixed block q).says.chars ≡ []
+pub execute_bare : (p : Option Write) (fixed block : List ℕ) (q : Request) → (execute_of p fixed block q).says.chars ≡ []
 unfolding BareExecute execute_of not_executed
 execute_bare p fixed block q = by_cond BareExecute (within 1 most_asked (length q.body)) (λ e. execute_when_bare p fixed block q) (λ e. refl)
 
@@ -226,10 +225,10 @@ control_tame table h q =
 TellsAll : Told → Type 0
 TellsAll t = answered (sending_of t.says.outcome) ≡ true
 
-again-says : (w : Memory) (fs : Files) (q : Request) → TellsAll (again_when w fs q)
+again-says : (w : Option HistoryReply) (fs : Files) (q : Request) → TellsAll (again_when w fs q)
 unfolding TellsAll again_when untold answered
-again-says Nothing fs q = refl
-again-says (Remembered t) fs q = by_cond TellsAll (agrees t q) (λ e. refl) (λ e. refl)
+again-says None fs q = refl
+again-says (Some t) fs q = by_cond TellsAll (agrees t q) (λ e. refl) (λ e. refl)
 
 pub history-says : (files values : List ℕ) (h : History) (q : Request) → answered (sending_of (history_of files values h q).says.outcome) ≡ true
 unfolding TellsAll history_of tell_of told_from untold answered
@@ -262,10 +261,10 @@ module _ (place : Layout) (values area held₀ : List ℕ) where
   Short : Told → Type 0
   Short t = length t.says.chars ≤ 511
 
-  again-short : (w : Memory) (q : Request) → file_of q < 32 → size_of values (file_of q) ≤ 38 → Short (again_when (cut values w) (files_laid place values area held₀) q)
+  again-short : (w : Option HistoryReply) (q : Request) → file_of q < 32 → size_of values (file_of q) ≤ 38 → Short (again_when (cut values w) (files_laid place values area held₀) q)
   unfolding Short again_when cut untold agrees
-  again-short Nothing q k l = omega arith
-  again-short (Remembered t) q k l =
+  again-short None q k l = omega arith
+  again-short (Some t) q k l =
       by_cond Short (is_of t.master (master_of q.address) && (eqb t.file.0 (file_of q) && beq t.dump (dumps q)))
       (λ a.
       let z : t.file.0 ≡ file_of q =
@@ -280,7 +279,7 @@ unfolding Short tell_of told_from untold
 told-short u area q v =
     let c = config_in u in
     let held : List ℕ = (unit_in u).counts in
-    let w : Memory = memory_in (unit_in u).numbers in
+    let w : (Option HistoryReply) = memory_in (unit_in u).numbers in
     let freed : Change = freed_for w (master_of q.address) in
     let P : Told → Type 0 = Short (packed c) c.values area held in
     by_cond P (ltb q.command 128)

@@ -1,4 +1,5 @@
 -- Function 04 as the step that it comes to. Assumes nothing.
+use Rattle.std.specs.Prelude.{None}
 use mathlib.Core.Path.{◌≡◌, refl, ap, ◌∙◌}
 use Prim.Native.Nat.{ℕ, ◌≤◌}
 use native.Mathlib.Omega.{arith}
@@ -8,7 +9,6 @@ use lib.ListN.{length, drop}
 use Rattle.model.specs.Frame.{Request}
 use Rattle.model.specs.History.{history_of}
 use Rattle.model.specs.Step.{scanned, Stepped, telling}
-use Rattle.model.specs.declared.Action.TheVariants.{Rest}
 use Rattle.model.specs.declared.Filled.{Filled}
 use Rattle.layout.specs.Numbers.{port_in, readable}
 use Rattle.layout.specs.Records.{files_in, packed}
@@ -40,7 +40,7 @@ told-behind u block area q long y =
 pub acted-told : (u block area : List ℕ) (q : Request) {m : Stepped} (v : List ℕ) {entry exit area' : List ℕ} (t : Filled) {r : Step}
     → length u ≡ unit_long → Ready u area → readable (numbers_in u) ≡ true → ServePromise u q area entry t v area' exit
     → m ≡ telling (inner_in u block area) (history_of (config_in u).files (config_in u).values (history_in u area) q)
-    → r ≡ record { outcome = t.outcome; action = Rest; count = t.count }
+    → r ≡ record { outcome = t.outcome; action = None; count = t.count }
     → StepInPromise (config_in u) m (areas_in v block (samples_held u area)) (files_held u area) (files_in (config_in u) area' (unit_in v).counts) (port_in (numbers_in u)) (numbers_in v) area (unit_in u).counts area' (unit_in v).counts entry exit r
 unfolding telling scanned
 acted-told u block area q v t long y stands s z e =

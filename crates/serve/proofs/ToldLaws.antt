@@ -4,7 +4,7 @@ use Prim.Native.Nat.{ℕ, ◌%◌}
 use mathlib.Core.List.{List, []}
 use mathlib.Core.Bool.{Bool, true, false, cond}
 use lib.Dec.{eqb}
-use borrow.Author.Tests.{eq-eqb, ne_eqb}
+use borrow.Author.Tests.{ne_eqb}
 use Rattle.chars.specs.Gather.{gather}
 use Rattle.model.specs.Frame.{Request, asked}
 use Rattle.model.specs.Outcome.{number_of}
@@ -46,11 +46,11 @@ module _ (table fixed : List ℕ) (q : Request) where
 
 -- groups start anew where the outcome is 0, else none
 module _ (u : List ℕ) (n : ℕ) where
-  pub anew-done : {v gs hs : List ℕ} → n ≡ 0 → hs ≡ gs → Anew u v gs → Anew u v (cond (eqb n 0) hs [])
-  anew-done z e a = rw (eq-eqb n 0 z, e) a
+  pub anew-done : {v gs hs : List ℕ} → eqb n 0 ≡ true → hs ≡ gs → Anew u v gs → Anew u v (cond (eqb n 0) hs [])
+  anew-done z e a = rw (z, e) a
 
-  pub anew_undone : (hs : List ℕ) → (n ≡ 0 → ⊥) → Anew u u (cond (eqb n 0) hs [])
-  anew_undone hs z = rw (ne_eqb n 0 z) (anew-none u)
+  pub anew_undone : (hs : List ℕ) → eqb n 0 ≡ false → Anew u u (cond (eqb n 0) hs [])
+  anew_undone hs z = rw z (anew-none u)
 
 -- ---- what is left
 

@@ -1,25 +1,26 @@
 -- What the inner steps of a stretch promise: what a function made of a frame, what a broadcast made, and what was made of a stretch,
 -- each with all that is lent.
-use Rattle.std.specs.Prelude.{◌≡◌, ℕ, ◌≤◌, List, [], Bool, true, false, not, ◌&&◌, length, eqb}
+use Rattle.std.specs.Prelude.{None, ◌≡◌, ℕ, ◌≤◌, List, [], Bool, true, false, cond, not, ◌&&◌, length, eqb, Option}
 use Rattle.chars.specs.Put.{put}
 use Rattle.model.specs.Limits.{reply_head, most_data, longest_reply}
 use Rattle.model.specs.Frame.{Request, heard_of, request_in}
 use Rattle.model.specs.Outcome.{number_of, sending_of, answer_number}
 use Rattle.model.specs.Config.{Config, within, valid_of}
-use Rattle.model.specs.Clock.{clock_fits}
 use Rattle.model.specs.Fits.{history_fits}
 use Rattle.model.specs.State.{Areas, Files}
 use Rattle.model.specs.Change.{applied}
-use Rattle.model.specs.Step.{Step as StepOf, Stepped, alone, return_of, internal_step, step_of, Made, answered, broadcast_of, broadcast_made, served, framed, judged}
+use Rattle.model.specs.Scan.{refuses}
+use Rattle.model.specs.Inputs.{reset_count_of}
+use Rattle.model.specs.Clock.{clock_fits, set_time_of}
+use Rattle.model.specs.Step.{Step as StepOf, scanned, changed, timed, Stepped, alone, return_of, internal_step, step_of, Made, answered, broadcast_of, broadcast_made, served, framed, judged}
 use Rattle.model.specs.Port.{sent_chars, port_heard}
 use Rattle.model.specs.declared.Outcome.{Outcome}
-use Rattle.model.specs.declared.Outcome.TheVariants.{WriteTaken}
-use Rattle.model.specs.declared.Action.TheVariants.{Rest}
+use Rattle.model.specs.declared.Outcome.TheVariants.{WriteTaken, Unknown}
 use Rattle.model.specs.declared.Answer.TheVariants.{Ended}
 use Rattle.model.specs.declared.Core.{Core}
 use Rattle.model.specs.declared.Frame.{Frame}
 use Rattle.model.specs.declared.Mark.{Mark}
-use Rattle.model.specs.declared.Memory.{Memory}
+use Rattle.model.specs.declared.HistoryReply.{HistoryReply}
 use Rattle.model.specs.declared.Port.{Port}
 use Rattle.layout.specs.Numbers.{core_in, memory_in, port_in, readable, Written}
 use Rattle.layout.specs.Unit.{unit_in, config_in, numbers_in, NumbersOnly}
@@ -33,7 +34,7 @@ use Rattle.serve.specs.declared.Made.{Made as MadeOf}
 -- ---- a unit's memory
 
 -- readable numbers mean this core, memory and port afterwards, and nothing else is written
-abbrev pub NumbersPromise : List ℕ → List ℕ → Core → Memory → Port → Type 0
+abbrev pub NumbersPromise : List ℕ → List ℕ → Core → Option HistoryReply → Port → Type 0
 NumbersPromise u v core memory port = (readable (numbers_in u) ≡ true → Written core memory port (numbers_in v)) × NumbersOnly u v
 
 -- a steady memory that tells of no more drops and samples, as every stretch leaves it (Request 4.4, 7.7)
@@ -85,6 +86,20 @@ pub record StepInPromise (c : Config) (m : Stepped) (a : Areas) (fs fs' : Files)
   pub acts : StepPromise m a p ls entry exit r
   pub files : fs' ≡ applied m.change fs
   pub changed : Shifted c m.change area counts area' counts'
+
+-- the two commands of function 20h that a broadcast knows too
+abbrev pub common_of : Config → Core → Areas → ℕ → Request → StepOf
+common_of c k a lag q =
+    cond (eqb q.command 0x11) (changed k a (reset_count_of c.inputs a.words q))
+    (cond (eqb q.command 0x38) (timed k a (set_time_of lag k.clock q))
+    (scanned k a (refuses Unknown)))
+
+-- whatever parameter block, samples and records there are
+abbrev pub CommonPromise : ℕ → Request → List ℕ → List ℕ → List ℕ → List ℕ → Step → Type 0
+CommonPromise lag q u v entry exit r =
+    ((block : List ℕ) (ss : List (List ℕ)) (fs : Files) → readable (numbers_in u) ≡ true
+    → StepPromise (alone (inner_by u block ss fs) (common_of (config_in u) (core_in (numbers_in u)) (areas_in u block ss) lag q)) (areas_in v block ss) (port_in (numbers_in u)) (numbers_in v) entry exit r)
+    × Unshifted u v
 
 -- function 20h, whatever samples and records there are
 abbrev pub InternalPromise : ℕ → Request → List ℕ → List ℕ → List ℕ → List ℕ → List ℕ → List ℕ → Step → Type 0
@@ -151,7 +166,7 @@ FramedPromise lag f s x y entry exit r =
 -- else nothing is written, and 5 is not what becomes of it (Request 5.2, 5.4)
 pub record AheadPromise (f : Frame) (s u v : List ℕ) (r : Bool) : Type 0 where
   pub taken : r ≡ true → (lag : ℕ) (block area entry : List ℕ) → longest_reply ≤ length entry
-      → FramedPromise lag f s (owned_of u block area) (owned_of v block area) entry entry (record { outcome = WriteTaken; action = Rest; sent = 0 })
+      → FramedPromise lag f s (owned_of u block area) (owned_of v block area) entry entry (record { outcome = WriteTaken; action = None; sent = 0 })
   pub same : r ≡ false → v ≡ u
   pub refused : r ≡ false → (lag : ℕ) (block area : List ℕ) → eqb (answer_number (framed (config_in u) (inner_in u block area) lag (request_in f s)).answer) 5 ≡ false
 
@@ -164,7 +179,7 @@ JudgedPromise lag s x y entry exit r =
 -- ---- a broadcast
 
 -- what it stirs: it has no data, and the memory stays
-pub record StirPromise (x : StepOf) (a : Areas) (w : Memory) (p : Port) (ls : List ℕ) (o : Outcome) : Type 0 where
+pub record StirPromise (x : StepOf) (a : Areas) (w : Option HistoryReply) (p : Port) (ls : List ℕ) (o : Outcome) : Type 0 where
   pub ended : o ≡ x.says.outcome
   pub kept : Written x.core w p ls
   pub areas : a ≡ x.areas

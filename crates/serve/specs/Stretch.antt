@@ -1,5 +1,5 @@
 -- What a stretch promises.
-use Rattle.std.specs.Prelude.{◌≡◌, ℕ, ◌≤◌, List, true, false, cond, length, ltb}
+use Rattle.std.specs.Prelude.{None, ◌≡◌, ℕ, ◌≤◌, List, true, false, cond, length, ltb}
 use Rattle.chars.specs.Put.{put}
 use Rattle.model.specs.Limits.{longest_reply}
 use Rattle.model.specs.Config.{Config}
@@ -7,7 +7,6 @@ use Rattle.model.specs.Event.{Event, stretch}
 use Rattle.model.specs.Run.{result_of, next_of, change_of}
 use Rattle.model.specs.declared.Outcome.TheVariants.{NotConfigured, BufferShort}
 use Rattle.model.specs.declared.Answer.TheVariants.{Ended}
-use Rattle.model.specs.declared.Action.TheVariants.{Rest}
 use Rattle.layout.specs.Unit.{config_in}
 use Rattle.serve.specs.declared.Made.{Made}
 use Rattle.layout.specs.Kept.{Kept, state_of, Owned, kept_in, standing, Steady}
@@ -39,7 +38,7 @@ pub record Served (lag : ℕ) (s : List ℕ) (x y : Owned) (entry exit : List �
 
 -- 18, then 17: nothing is changed, sent or operated
 pub record Away (x y : Owned) (entry exit : List ℕ) (r : Made) : Type 0 where
-  pub shown : r ≡ record { outcome = cond (ltb (length entry) longest_reply) BufferShort NotConfigured; action = Rest; sent = 0 }
+  pub shown : r ≡ record { outcome = cond (ltb (length entry) longest_reply) BufferShort NotConfigured; action = None; sent = 0 }
   pub written : exit ≡ entry
   pub owned : y ≡ x
 

@@ -3,9 +3,8 @@ ghost use Rattle.std.specs.Prelude.{◌≡◌, ◌+◌, length};
 ghost use Rattle.model.specs.Limits.{shortest_frame};
 ghost use Rattle.serve.specs.Promises.{AheadPromise};
 
-use frames::outcomes::number;
 use layout::{UNIT, hold_kept, keep_write, number_of, write_kept};
-use model::Frame;
+use model::{Frame, Outcome};
 
 // Nothing is sent to a WRITE that is taken, and nothing but the write and the port changes.
 pub fn ahead<'a>(unit: &mut [u8; UNIT], write: Frame, s: &'a [u8]) -> bool
@@ -13,19 +12,16 @@ pub fn ahead<'a>(unit: &mut [u8; UNIT], write: Frame, s: &'a [u8]) -> bool
     ensures { AheadPromise write s.now unit.old unit.new result }
 {
     let body = frames::data_of(s);
-    if frames::unit_of(write.address) != number_of(unit) {
-        return false;
-    }
-    if control::breaks_off(hold_kept(unit), write, body) {
+    if frames::unit_of(write.address) != number_of(unit)
+        || control::breaks_off(hold_kept(unit), write, body)
+    {
         return false;
     }
     let done = blocks::write(write_kept(unit), write, body);
-    let outcome = done.outcome;
-    let waits = done.write;
-    if number(outcome) == 5 {
-        keep_write(unit, waits);
-        port::hear(unit, s.len(), outcome);
-        return true;
+    let taken = done.outcome == Outcome::WriteTaken;
+    if taken {
+        keep_write(unit, done.write);
+        port::hear(unit, s.len(), done.outcome);
     }
-    false
+    taken
 }

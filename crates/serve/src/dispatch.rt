@@ -12,10 +12,9 @@ ghost use Rattle.serve.specs.Promises.{NumbersPromise, leaves, ActPromise, Serve
 use super::Made;
 use super::commands::{internal, returned};
 use super::ending::{finish, port_status_in, settle, start_anew, status_in};
-use super::step::{Step, plain_step, scanned};
-use frames::outcomes::number;
+use super::step::Step;
 use layout::{UNIT, hold_kept, keep_hold};
-use model::{Frame, Hold, Outcome};
+use model::{Frame, Function, Hold, Outcome};
 
 // ---- what a function hands back, as a step
 
@@ -23,29 +22,34 @@ use model::{Frame, Hold, Outcome};
 fn left(outcome: Outcome) -> bool
     ensures { result ≡ leaves outcome }
 {
-    let n = number(outcome);
-    (6 <= n) & (n <= 15) & (n != 11) & (n != 12)
+    matches!(
+        outcome,
+        Outcome::Unknown
+            | Outcome::WrongCount
+            | Outcome::NotValid
+            | Outcome::TooLong
+            | Outcome::NothingAgain
+            | Outcome::SelectHeld
+            | Outcome::NothingWaits
+            | Outcome::WriteHeld
+    )
 }
 
+// What a control function left of the select is kept, but where a refusal leaves it.
 fn controlled(unit: &mut [u8; UNIT], ran: control::Ran) -> Step
     ensures value { result ≡ record { outcome = ran.outcome; action = ran.action; count = ran.count } }
     ensures numbers_promise { NumbersPromise unit.old unit.new
         (with_hold (core_in (numbers_in unit.old)) (cond (leaves ran.outcome) (core_in (numbers_in unit.old)).hold ran.hold))
         (memory_in (numbers_in unit.old)) (port_in (numbers_in unit.old)) }
 {
-    let outcome = ran.outcome;
-    let action = ran.action;
-    let hold = ran.hold;
-    let step = Step {
-        outcome: outcome,
-        action: action,
-        count: ran.count,
-    };
-    if left(outcome) {
-        return step;
+    if !left(ran.outcome) {
+        keep_hold(unit, ran.hold);
     }
-    keep_hold(unit, hold);
-    step
+    Step {
+        outcome: ran.outcome,
+        action: ran.action,
+        count: ran.count,
+    }
 }
 
 // ---- the frame
@@ -65,25 +69,22 @@ fn act<'a>(
         (owned_of unit.old block.old records.old)
         (owned_of unit.new block.new records.new) buffer.old buffer.new result }
 {
-    chars::told_long(unit);
     if control::breaks_off(hold_kept(unit), frame, body) {
         keep_hold(unit, Hold::Free);
-        return plain_step(Outcome::BrokenOff);
+        return Step::from(Outcome::BrokenOff);
     }
-    let function = frame.function;
-    match function {
-        0x00 => scanned(inputs::scan(unit, frame, body, buffer)),
-        0x03 => scanned(calculations::scan(unit, frame, body, buffer)),
-        0x04 => scanned(history::serve(unit, records, frame, body, buffer)),
-        0x0A => scanned(tables::planned(unit, frame, body, buffer)),
-        0x10 => {
-            let hold = hold_kept(unit);
-            let ran = control::control(unit, hold, frame, body, buffer);
+    match Function::try_from(frame.function) {
+        Ok(Function::Inputs) => Step::from(inputs::scan(unit, frame, body, buffer)),
+        Ok(Function::Calculations) => Step::from(calculations::scan(unit, frame, body, buffer)),
+        Ok(Function::History) => Step::from(history::serve(unit, records, frame, body, buffer)),
+        Ok(Function::Tables) => Step::from(tables::planned(unit, frame, body, buffer)),
+        Ok(Function::Control) => {
+            let ran = control::control(unit, hold_kept(unit), frame, body, buffer);
             controlled(unit, ran)
         }
-        0x20 => internal(unit, block, buffer, frame, body, lag),
-        0x28 => returned(unit, block, buffer, frame, body),
-        _ => plain_step(Outcome::Unknown),
+        Ok(Function::Internal) => internal(unit, block, buffer, frame, body, lag),
+        Ok(Function::Return) => returned(unit, block, buffer, frame, body),
+        Err(_) => Step::from(Outcome::Unknown),
     }
 }
 
@@ -104,16 +105,18 @@ pub fn served<'a>(
 {
     let status = status_in(unit);
     let port = port_status_in(unit);
-    let step = act(unit, block, records, buffer, frame, body, lag);
-    let outcome = step.outcome;
-    let action = step.action;
-    port::hear(unit, Frame::SHORTEST + frame.count as usize, outcome);
-    let sent = finish(status, frame, outcome, step.count, port, buffer);
+    let Step {
+        outcome,
+        action,
+        count,
+    } = act(unit, block, records, buffer, frame, body, lag);
+    port::hear(unit, Frame::SHORTEST + usize::from(frame.count), outcome);
+    let sent = finish(status, frame, outcome, count, port, buffer);
     settle(unit, frame, outcome);
     start_anew(unit, frame, outcome);
     Made {
-        outcome: outcome,
-        action: action,
-        sent: sent,
+        outcome,
+        action,
+        sent,
     }
 }

@@ -13,29 +13,21 @@ ghost use Rattle.serve.specs.Ends.{Replies, head_of, status_at};
 ghost use Rattle.serve.specs.Promises.{NumbersPromise};
 
 use super::Made;
-use frames::outcomes::{is_answered, number, reply_function};
+use frames::outcomes::{is_answered, reply_function};
 use layout::{
     UNIT, broadcast_in, configure_in, error_in, keep_broadcast, keep_write, mark_at, write_kept,
 };
-use model::{Action, Frame, Outcome, Pending, Reply};
+use model::{Frame, Function, Operation, Outcome, Reply};
 
 // ---- the reply
-
-fn status_bit(on: bool, value: u8) -> u8
-    ensures { (result ≡ cond on value 0) × (result ≤ value) }
-{
-    if on {
-        return value;
-    }
-    0
-}
 
 // The status, which a frame finds before its function changes it.
 pub fn status_in<'a>(unit: &'a [u8; UNIT]) -> u8
     ensures { result ≡ status_of (core_in (numbers_in unit.now)) }
 {
-    status_bit(configure_in(unit), 0x80)
-        + (status_bit(error_in(unit), 0x08) + status_bit(broadcast_in(unit), 0x04))
+    u8::from(configure_in(unit)) * 0x80
+        + u8::from(error_in(unit)) * 0x08
+        + u8::from(broadcast_in(unit)) * 0x04
 }
 
 // The mark's number is at most 2 where the numbers are readable.
@@ -61,9 +53,9 @@ pub fn finish(
         let head = Reply {
             address: frame.address,
             function: reply_function(frame.function, outcome),
-            status: status,
-            port: port,
-            count: count,
+            status,
+            port,
+            count,
         };
         return frames::fill(buffer, head);
     }
@@ -72,11 +64,11 @@ pub fn finish(
 
 // Nothing is sent or operated.
 pub fn quiet(outcome: Outcome) -> Made
-    ensures { result ≡ record { outcome = outcome; action = Action.Rest; sent = 0 } }
+    ensures { result ≡ record { outcome = outcome; action = None; sent = 0 } }
 {
     Made {
-        outcome: outcome,
-        action: Action::Rest,
+        outcome,
+        action: None,
         sent: 0,
     }
 }
@@ -90,19 +82,12 @@ fn settle_write(unit: &mut [u8; UNIT], frame: Frame, outcome: Outcome)
         (cond (eqb (number_of outcome) 5) (core_in (numbers_in unit.old)).write (dropped (core_in (numbers_in unit.old)).write (master_of frame.address))))
         (memory_in (numbers_in unit.old)) (port_in (numbers_in unit.old)) }
 {
-    if number(outcome) == 5 {
+    if outcome == Outcome::WriteTaken {
         return;
     }
     let master = frames::master_of(frame.address);
-    let pending = write_kept(unit);
-    match pending {
-        Pending::NoWrite => {}
-        Pending::Waits(write) => {
-            let owner = write.master;
-            if owner.is(master) {
-                keep_write(unit, Pending::NoWrite);
-            }
-        }
+    if write_kept(unit).is_some_and(|write| write.master == master) {
+        keep_write(unit, None);
     }
 }
 
@@ -132,12 +117,11 @@ pub fn start_anew(unit: &mut [u8; UNIT], frame: Frame, outcome: Outcome)
     ensures { Anew unit.old unit.new
         (cond (eqb (number_of outcome) 0) (groups_carried (config_in unit.old).inputs (unit_in unit.old).fixed (asked frame [])) []) }
 {
-    if number(outcome) == 0 {
-        let function = frame.function;
-        match function {
-            0x00 => inputs::start_anew(unit, frame.command),
-            0x0A => tables::start_anew(unit, frame.command),
-            _ => {}
+    if outcome == Outcome::Done {
+        if frame.function == Function::Inputs as u8 {
+            inputs::start_anew(unit, frame.command);
+        } else if frame.function == Function::Tables as u8 {
+            tables::start_anew(unit, frame.command);
         }
     }
 }

@@ -8,9 +8,6 @@ use super::Made;
 pub fn reply<'a>(buffer: &'a mut [u8], made: Made) -> &'a mut [u8]
     ensures { (result.now ≡ part buffer.old 0 made.sent) × (result.ref_ptr ≡ buffer.entry.ref_ptr) }
 {
-    let n = made.sent;
-    if buffer.len() < n {
-        return buffer;
-    }
+    let n = made.sent.min(buffer.len());
     &mut buffer[..n]
 }

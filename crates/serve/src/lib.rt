@@ -1,4 +1,5 @@
 // A stretch: the order of outcomes, one dispatch over the functions, one ending for every frame.
+// What is lent and the frame stay apart as parameters: of a struct that held the borrows every clause would have to say `request.entry.unit.now`.
 #![tactic(auto)]
 
 mod ahead;
@@ -12,12 +13,12 @@ mod step;
 
 pub use handed::reply;
 pub use line::stretch;
-use model::{Action, Outcome};
+use model::{Operation, Outcome};
 
 // How a stretch ended: the outcome, the output action, and how many characters of the buffer are to be sent.
 #[derive(Clone, Copy)]
 pub struct Made {
     pub outcome: Outcome,
-    pub action: Action,
+    pub action: Option<Operation>,
     pub sent: usize,
 }

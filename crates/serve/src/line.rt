@@ -26,8 +26,7 @@ fn marked(unit: &mut [u8; UNIT], s: &[u8], made: Made) -> Made
         × Renumbered unit.old unit.new
         (put_port (port_heard_by (port_in (numbers_in unit.old)) (length s.now) made.outcome) (numbers_in unit.old)) }
 {
-    let outcome = made.outcome;
-    port::hear(unit, s.len(), outcome);
+    port::hear(unit, s.len(), made.outcome);
     made
 }
 
@@ -73,23 +72,20 @@ fn judged<'a>(
         (owned_of unit.old block.old records.old)
         (owned_of unit.new block.new records.new) buffer.old buffer.new result }
 {
-    let heard = frames::hear(s);
-    let mut part = s;
-    let frame = match heard {
+    let left = match frames::hear(s) {
         Heard::Broken => return marked(unit, s, quiet(Outcome::NotWhole)),
         Heard::Wrong => return marked(unit, s, quiet(Outcome::CheckWrong)),
-        Heard::Whole(frame) => frame,
+        Heard::Whole(frame) => (s, frame),
         Heard::Pair(write, execute) => {
-            part = &s[..Frame::WRITE];
-            if ahead(unit, write, part) {
-                part = &s[Frame::WRITE..];
-                execute
+            let (first, second) = s.split_at(Frame::WRITE);
+            if ahead(unit, write, first) {
+                (second, execute)
             } else {
-                write
+                (first, write)
             }
         }
     };
-    framed(unit, block, records, buffer, part, frame, lag)
+    framed(unit, block, records, buffer, left.0, left.1, lag)
 }
 
 // The lag: the milliseconds from the sync point to the idle mark, which Set Time alone looks at.

@@ -4,14 +4,14 @@ use Prim.Native.Nat.{ℕ, zero, suc, ◌+◌, ◌*◌, ◌-◌, ◌/◌, ◌%◌
 use native.Mathlib.Omega.{arith}
 use native.Mathlib.Decide.{dec_lt}
 use mathlib.Core.List.{List, [], ◌∷◌, ◌++◌}
-use mathlib.Core.Bool.{true, false, cond}
-use lib.ListN.{length, get_or, set, take, drop, length-take, length-drop, length-set}
+use mathlib.Core.Bool.{Bool, true, false, cond, ◌&&◌}
+use lib.ListN.{length, get_or, set, take, drop, length-take, length-drop}
 use lib.Seq.{take_all, take-take, get_or-set_same, get_or-set_other}
-use lib.Dec.{lit<}
-use borrow.Author.Tests.{ne_eqb, lt-ltb, le-ltb}
+use lib.Dec.{ltb}
+use borrow.Author.Tests.{ne_eqb}
 use Rattle.chars.specs.Put.{put, part}
 use Rattle.chars.specs.Gather.{gather, up_from, Gathered}
-use Rattle.chars.proofs.PutLaws.{put-none, put_one, put_all, put_then, put-more}
+use Rattle.chars.proofs.PutLaws.{put-none, put_one, put_all}
 use Rattle.chars.proofs.WordLaws.{length-word}
 use Rattle.chars.proofs.GatherLaws.{gather-each, gather-more, gathered_more, length_up, up_none, up_next}
 use Rattle.model.specs.Limits.{reply_head}
@@ -19,13 +19,14 @@ use Rattle.model.specs.Scan.{tells, refuses}
 use Rattle.model.specs.Outcome.{number_of}
 use Rattle.model.specs.Tables.{table_of, sendable, word_in, send_of, table_scan, table_area}
 use Rattle.model.specs.Plans.{outcome_for, part_of, parts_of, plans_of, planned_part, planned_numbers, planned_scan}
-use Rattle.model.specs.declared.Outcome.TheVariants.{NotValid, TooLong}
+use Rattle.model.specs.declared.Outcome.{Outcome}
+use Rattle.model.specs.declared.Outcome.TheVariants.{Done, NotValid, TooLong}
 use Rattle.model.specs.declared.Table.{Table}
-use Rattle.model.proofs.Conditions.{by_bool, by_eqb}
-use Rattle.layout.specs.Unit.{Unit, unit_sizes, unit_long, plans_region, unit_from, unit_in, put_plans_at, put_plans}
-use Rattle.layout.proofs.UnitLaws.{put_in_lem, region_size, plans-put, plans-then}
+use Rattle.model.proofs.Conditions.{by_eqb}
+use Rattle.layout.specs.Unit.{Unit, unit_sizes, plans_region, unit_in, put_plans_at, put_plans}
+use Rattle.layout.proofs.UnitLaws.{put_in_lem, plans-put, plans-then}
 use Rattle.tables.specs.Walked.{Found}
-use Rattle.tables.specs.Able.{Able, reply_end, OutcomeOf, OutcomesOf}
+use Rattle.tables.specs.Able.{Able, reply_end, OutcomeOf}
 use Rattle.tables.specs.declared.Parts.{Parts}
 
 -- ---- a part of a plan, cut to what is in the area and to what is left
@@ -113,109 +114,61 @@ module _ (plans area words : List ℕ) (k : ℕ) {o : ℕ} (e : o ≡ get_or pla
   unfolding planned_scan
   plan_not-valid z n = rw (← e, ne_eqb o 0 z, ne_eqb o 9 n)
 
--- the plans as they were lent
-pub plans_lent : (u plans : List ℕ) → length u ≡ unit_long → plans ≡ (unit_in u).plans → length plans ≡ 112
-unfolding unit_from unit_sizes
-plans_lent u plans l e = ap length e ∙ region_size u l plans_region (lit< tt)
-
 -- ---- which tables can be sent
 
-pub able_none : (table area able : List ℕ) → length able ≡ 16 → Able table area able 0
-able_none table area able l = record { long = l; judged = λ k h. absurd (omega arith) }
+pub able_none : (table area : List ℕ) (able : List Bool) → Able table area able 0
+able_none table area able = record { judged = λ k h. absurd (omega arith) }
 
-pub able_more : {table area able : List ℕ} {n v : ℕ} → Able table area able n → n < 16 → v ≡ cond (sendable table area (table_of area n)) 1 0
-    → Able table area (set able n v) (n + 1)
-able_more {able = able} {n = n} {v = v} a h e =
+pub able_more : {table area : List ℕ} {able : List Bool} {n : ℕ} {b : Bool} → Able table area able n → n < length able → b ≡ sendable table area (table_of area n)
+    → Able table area (set able n b) (n + 1)
+able_more {able = able} {n = n} {b = b} a h e =
     record {
-      long = length-set able n v ∙ a.long;
       judged = λ k l.
           by_eqb k n
-          (λ d. rw d (get_or-set_same able n v 0 (omega (arith, a.long)) ∙ e))
-          (λ d. get_or-set_other able n k v 0 d ∙ a.judged k (omega arith));
+          (λ d. rw d (get_or-set_same able n b false h ∙ e))
+          (λ d. get_or-set_other able n k b false d ∙ a.judged k (omega arith));
     }
 
 -- ---- the outcome of a plan, by what was judged of the three tables
 
-module _ {table area able : List ℕ} {k : ℕ} {t : Parts} (a : Able table area able 16) (f : Found area k t) (h : k < 16) where
-  outcome_is : outcome_for table area k ≡ number_of (send_of table area [] t.one t.two t.own).outcome
-  unfolding outcome_for table_scan
-  outcome_is = rw (f.one, f.two, f.own)
+-- by whether all three can be sent, and whether that is too long
+abbrev pub outcome_by : Bool → Bool → Outcome
+outcome_by sends long = cond sends (cond long TooLong Done) NotValid
 
-  unable : (n : ℕ) (x : Table) → n < 16 → x ≡ table_of area n → get_or able n 0 ≡ 0 → sendable table area x ≡ false
-  unable n x l e z =
-      by_bool (sendable table area x) (λ s. let v : get_or able n 0 ≡ 1 = a.judged n l ∙ rw (← e, s) in absurd (omega arith)) (λ s. s)
+ends : (sends long : Bool) (ys : List ℕ) → (cond sends (cond long (refuses TooLong) (tells ys)) (refuses NotValid)).outcome ≡ outcome_by sends long
+ends true true ys = refl
+ends true false ys = refl
+ends false long ys = refl
 
-  sends : (n : ℕ) (x : Table) → n < 16 → x ≡ table_of area n → (get_or able n 0 ≡ 0 → ⊥) → sendable table area x ≡ true
-  sends n x l e z = by_bool (sendable table area x) (λ s. s) (λ s. absurd (z (a.judged n l ∙ rw (← e, s))))
+module _ {table area : List ℕ} {able : List Bool} {k : ℕ} {t : Parts} (a : Able table area able 16) (f : Found area k t) (h : k < 16) (small : t.own.nibbles < 256) where
+  sends : (n : ℕ) {x : Table} → n < 16 → x ≡ table_of area n → sendable table area x ≡ get_or able n false
+  sends n l e = rw e (sym (a.judged n l))
 
-  module _ (small : t.own.nibbles < 256) where
-    pub own_unable : get_or able k 0 ≡ 0 → 8 ≡ outcome_for table area k
-    unfolding send_of
-    own_unable z = sym (outcome_is ∙ rw (unable k t.own h f.own z))
+  pub outcome_judged : outcome_for table area k
+      ≡ number_of (outcome_by (get_or able k false && (get_or able (t.own.nibbles / 16) false && get_or able (t.own.nibbles % 16) false)) (ltb 255 (t.one.quantity + t.two.quantity + t.own.quantity)))
+  unfolding outcome_for table_scan send_of
+  outcome_judged =
+      rw (← f.own) (rw (← f.one, ← f.two)
+      (ap number_of (ends _ _ _) ∙ rw (sends k h f.own, sends (t.own.nibbles / 16) (omega arith) f.one, sends (t.own.nibbles % 16) (omega arith) f.two)))
 
-    module _ (x : get_or able k 0 ≡ 0 → ⊥) where
-      abbrev own_sends : sendable table area t.own ≡ true
-      own_sends = sends k t.own h f.own x
+-- the outcomes of the first n tables, laid in front of what stood there
+abbrev pub Outcomes : List ℕ → List Bool → ℕ → List ℕ → List ℕ → Type 0
+Outcomes area able n entry exit =
+    (table : List ℕ) → Able table area able 16 → Gathered (λ k. outcome_for table area k ∷ []) (up_from 0 n) entry 0 exit n
 
-      pub one_unable : get_or able (t.own.nibbles / 16) 0 ≡ 0 → 8 ≡ outcome_for table area k
-      unfolding send_of
-      one_unable z = sym (outcome_is ∙ rw (own_sends, unable _ t.one (omega arith) f.one z))
-
-      module _ (y : get_or able (t.own.nibbles / 16) 0 ≡ 0 → ⊥) where
-        abbrev one_sends : sendable table area t.one ≡ true
-        one_sends = sends _ t.one (omega arith) f.one y
-
-        pub two_unable : get_or able (t.own.nibbles % 16) 0 ≡ 0 → 8 ≡ outcome_for table area k
-        unfolding send_of
-        two_unable z = sym (outcome_is ∙ rw (own_sends, one_sends, unable _ t.two (omega arith) f.two z))
-
-        module _ (z : get_or able (t.own.nibbles % 16) 0 ≡ 0 → ⊥) where
-          abbrev two_sends : sendable table area t.two ≡ true
-          two_sends = sends _ t.two (omega arith) f.two z
-
-          pub able_long : 255 < t.one.quantity + t.two.quantity + t.own.quantity → 9 ≡ outcome_for table area k
-          unfolding send_of
-          able_long l = sym (outcome_is ∙ rw (own_sends, one_sends, two_sends, lt-ltb 255 _ l))
-
-          pub able_told : t.one.quantity + t.two.quantity + t.own.quantity ≤ 255 → 0 ≡ outcome_for table area k
-          unfolding send_of
-          able_told l = sym (outcome_is ∙ rw (own_sends, one_sends, two_sends, le-ltb 255 _ l))
-
--- one outcome more
-pub outcome-laid : {area able plans₀ plans : List ℕ} {k o : ℕ} (t : Parts) → OutcomesOf area able k plans₀ plans → Found area k t → OutcomeOf able t k o
-    → OutcomesOf area able (k + 1) plans₀ (set plans k o)
-outcome-laid t g f w = λ table a. rw up_next (gathered_more (g table a) _ _ _ _ (ap (λ (n : ℕ). n ∷ []) (sym (w table _ a f))) (sym (put_one _ _ _)) refl)
+pub outcomes_more : {area entry plans : List ℕ} {able : List Bool} {k o : ℕ} (t : Parts) → Outcomes area able k entry plans → Found area k t → OutcomeOf able t k o
+    → Outcomes area able (k + 1) entry (set plans k o)
+outcomes_more t g f w = λ table a. rw up_next (gathered_more (g table a) _ _ _ _ (ap (λ (n : ℕ). n ∷ []) (sym (w table _ a f))) (sym (put_one _ _ _)) refl)
 
 -- ---- its parts
-
-pub part-put : (xs : List ℕ) (at : ℕ) (t : Table) → set (set xs at (t.start % 256)) (at + 1) t.quantity ≡ put xs at (part_of t)
-unfolding part_of
-part-put xs at t =
-    ap (λ (l : List ℕ). set l (at + 1) t.quantity) (sym (put_one xs at (t.start % 256))) ∙ put-more xs at (t.start % 256 ∷ []) t.quantity (at + 1) refl
-
-pub parts-put : (xs ys zs ws : List ℕ) (at : ℕ) (t : Parts) → ys ≡ put xs at (part_of t.one) → zs ≡ put ys (at + 2) (part_of t.two)
-    → ws ≡ put zs (at + 4) (part_of t.own) → ws ≡ put xs at (part_of t.one ++ (part_of t.two ++ part_of t.own))
-unfolding part_of
-parts-put xs ys zs ws at t e f g =
-    put_then xs ys ws at (at + 2) (part_of t.one) (part_of t.two ++ part_of t.own) e refl
-    (put_then ys zs ws (at + 2) (at + 4) (part_of t.two) (part_of t.own) f (omega arith) g)
 
 pub parts-found : {area : List ℕ} {k : ℕ} {t : Parts} → Found area k t → parts_of area k ≡ part_of t.one ++ (part_of t.two ++ part_of t.own)
 unfolding parts_of
 parts-found f = rw (f.one, f.two, f.own)
 
-pub parts-long : (t : Parts) → length (part_of t.one ++ (part_of t.two ++ part_of t.own)) ≡ 6
-unfolding part_of
-parts-long t = refl
-
 parts-each : (area : List ℕ) (k : ℕ) → length (parts_of area k) ≡ 6
 unfolding parts_of part_of
 parts-each area k = refl
-
--- the parts of one plan, laid by themselves
-pub parts-alone : (xs : List ℕ) {area ys : List ℕ} {k : ℕ} {t : Parts} → length xs ≡ 6 → Found area k t → ys ≡ put xs 0 (part_of t.one ++ (part_of t.two ++ part_of t.own))
-    → ys ≡ parts_of area k
-parts-alone xs {t = t} l f e = e ∙ put_all xs _ (l ∙ sym (parts-long t)) ∙ sym (parts-found f)
 
 -- the parts of one plan more, where plans leave the tables
 pub tables_left : (u : List ℕ) (at : ℕ) (ps : List ℕ) {v : List ℕ} → at + length ps ≤ 112 → v ≡ put_plans_at u at ps → table_area (unit_in v).fixed ≡ table_area (unit_in u).fixed
@@ -235,9 +188,10 @@ module _ (u : List ℕ) where
   pub parts_leave : (k : ℕ) {v : List ℕ} → k ≤ 16 → v ≡ put_plans_at u 16 (gather (parts_of tables) (up_from 0 k)) → table_area (unit_in v).fixed ≡ tables
   parts_leave k h e = tables_left u 16 _ (omega (arith, parts_size k)) e
 
-  pub parts_more : (k at : ℕ) {v w : List ℕ} → k < 16 → at ≡ 16 + 6 * k → v ≡ put_plans_at u 16 (gather (parts_of tables) (up_from 0 k))
-      → w ≡ put_plans_at v at (parts_of (table_area (unit_in v).fixed) k) → w ≡ put_plans_at u 16 (gather (parts_of tables) (up_from 0 (k + 1)))
-  parts_more k at {v} {w} h a e f =
+  pub parts_more : (k : ℕ) {v w : List ℕ} → k < 16 → v ≡ put_plans_at u 16 (gather (parts_of tables) (up_from 0 k))
+      → w ≡ put_plans_at v (16 + 6 * k) (parts_of (table_area (unit_in v).fixed) k) → w ≡ put_plans_at u 16 (gather (parts_of tables) (up_from 0 (k + 1)))
+  parts_more k {v} {w} h e f =
+      let at = 16 + 6 * k in
       let g : w ≡ put_plans_at v at (parts_of tables k) = f ∙ ap (λ (area : List ℕ). put_plans_at v at (parts_of area k)) (parts_leave k (omega arith) e) in
       plans-then u v w 16 at (gather (parts_of tables) (up_from 0 k)) (parts_of tables k) (omega (arith, parts-each tables k)) e (omega (arith, parts_size k)) g
       ∙ ap (put_plans_at u 16) (sym (rw up_next (gather-more (parts_of tables) (up_from 0 k) k)))

@@ -1,10 +1,9 @@
 -- The groups of contacts that the reply to a scan of a table carried. Assumes nothing.
-use mathlib.Core.Path.{◌≡◌, refl, sym, ap, subst, ◌∙◌}
+use mathlib.Core.Path.{◌≡◌, refl, ap, subst, ◌∙◌}
 use Prim.Native.Nat.{ℕ, ◌+◌, ◌/◌, ◌%◌, ◌≤◌, ◌<◌}
 use native.Mathlib.Omega.{arith}
 use mathlib.Core.List.{List, ◌++◌}
 use lib.ListN.{length, get_or, drop, length-take}
-use lib.Seq.{get_or-take, get_or-drop}
 use Rattle.chars.specs.Put.{part}
 use Rattle.chars.specs.Gather.{gather}
 use Rattle.chars.proofs.PutLaws.{length_part, part-more}
@@ -31,10 +30,6 @@ area-long u l = length_part (unit_in u).fixed 16 256 (omega (arith, fixed-long u
 pub numbers-within : (u : List ℕ) {t : Table} → Within (area_of u) t → t.start + t.quantity ≤ area_long
 unfolding table_area part
 numbers-within u w = omega (arith, w.inside, length-take 256 (drop 16 (unit_in u).fixed))
-
-pub number-told : (u : List ℕ) (i : ℕ) {fixed : List ℕ} {r : ℕ} → i < area_long → fixed ≡ (unit_in u).fixed → r ≡ get_or fixed (16 + i) 0 → r ≡ get_or (area_of u) i 0
-unfolding table_area part
-number-told u i h e f = f ∙ ap (λ (l : List ℕ). get_or l (16 + i) 0) e ∙ sym (get_or-take 256 (drop 16 (unit_in u).fixed) i 0 h ∙ get_or-drop 16 (unit_in u).fixed i 0)
 
 -- the groups among the first i numbers from an index on
 pub numbers-none : (u : List ℕ) (from : ℕ) → Anew u u (groups_of u (part (area_of u) from 0))

@@ -1,10 +1,10 @@
 -- The walk of the table area: what it keeps are the starts of the definition, whichever table is asked for.
 -- Assumes nothing.
-use mathlib.Core.Path.{◌≡◌, sym, ap, ◌∙◌}
+use mathlib.Core.Path.{◌≡◌, refl, sym, ap, ◌∙◌}
 use Prim.Native.Nat.{ℕ, ◌+◌, ◌-◌, ◌≤◌, ◌<◌}
 use native.Mathlib.Omega.{arith}
-use mathlib.Core.List.{List, []}
-use mathlib.Core.Bool.{true, false}
+use mathlib.Core.List.{List}
+use mathlib.Core.Bool.{Bool, true, false, not}
 use borrow.Author.Tests.{ltb-true, ltb-false}
 use lib.Dec.{ltb}
 use lib.ListN.{length, get_or, set, replicate, length-set, length-replicate, get_or-replicate}
@@ -12,9 +12,18 @@ use lib.Seq.{get_or-set_same, get_or-set_other}
 use Rattle.model.specs.Tables.{stands_at, table_at, start_of, table_of}
 use Rattle.model.specs.declared.Table.{Table}
 use Rattle.model.proofs.Conditions.{by_bool, by_eqb, false-true}
-use Rattle.tables.specs.Judged.{Within}
 use Rattle.tables.specs.Walked.{area_long, no_start, kept_start, Passed, StartKept}
-use Rattle.tables.proofs.TableLaws.{stands-fits, stands-short, table_present, table_absent, start-next, none_after, table_more}
+use Rattle.tables.proofs.TableLaws.{stands-fits, table_present, table_absent, start-next, none_after, table_more}
+
+-- ---- what a refused test says of the flag
+
+pub flag-down : (b : Bool) → not b ≡ true → b ≡ false
+flag-down true e = false-true e
+flag-down false e = refl
+
+pub flag-up : (b : Bool) → not b ≡ false → b ≡ true
+flag-up true e = refl
+flag-up false e = false-true (sym e)
 
 -- ---- a table that is present stands, and one with nibbles is present
 
@@ -38,45 +47,40 @@ module _ (area : List ℕ) (k : ℕ) where
   unfolding kept_start
   kept-none e = simp e
 
-module _ {area starts : List ℕ} {k : ℕ} (p : StartKept area starts k) (z : 0 < k) (long : length area ≤ area_long) {s : ℕ} (e : s ≡ get_or starts k 0) where
-  pub kept-present : (s ≡ no_start → ⊥) → (stands_at area s ≡ true) × (table_at area s ≡ table_of area k)
-  kept-present n =
+module _ {area starts : List ℕ} {k : ℕ} (p : StartKept area starts k) (z : 0 < k) where
+  pub kept-present : {s : ℕ} → s ≡ get_or starts k 0 → (s ≡ no_start → ⊥) → (stands_at area s ≡ true) × (table_at area s ≡ table_of area k)
+  kept-present {s} e n =
       let at = start_of area (k - 1) in
       let d = e ∙ p.start z in
       by_bool (stands_at area at)
       (λ f. let g = d ∙ kept_there area (k - 1) f in (rw g f, ap (table_at area) g ∙ sym (table_more area k z)))
       (λ f. absurd (n (d ∙ kept-none area (k - 1) f)))
 
-  pub kept_absent : s ≡ no_start → {t : Table} → t ≡ table_at area (length area) → t ≡ table_of area k
-  kept_absent n f =
+  pub kept_absent : length area ≤ area_long → get_or starts k 0 ≡ no_start → record { present = false; nibbles = 0; start = 0; quantity = 0 } ≡ table_of area k
+  kept_absent long e =
       let at = start_of area (k - 1) in
-      let d = e ∙ p.start z in
+      let d = sym (p.start z) ∙ e in
       by_bool (stands_at area at)
-      (λ g. absurd (omega (arith, n, d, kept_there area (k - 1) g, stands-fits area at g)))
-      (λ g.
-      f ∙ table_absent area (length area) (stands-short area (length area) (omega arith)) ∙ sym (table_absent area at g) ∙ sym (table_more area k z))
+      (λ f. absurd (omega (arith, d, kept_there area (k - 1) f, stands-fits area at f)))
+      (λ f. sym (table_more area k z ∙ table_absent area at f))
 
 -- ---- what is kept
 
-pub passed_none : (area : List ℕ) (n : ℕ) → 0 < n → Passed area (replicate n no_start) 0
-passed_none area n h =
-    let long : length (replicate n no_start) ≡ n = length-replicate n no_start in record {
-      room = omega arith;
-      kept = λ j l. absurd (omega arith);
-      ahead = λ j l m. get_or-replicate n j no_start 0 (omega arith);
-    }
+pub passed_none : (area : List ℕ) (n : ℕ) → Passed area (replicate n no_start) 0
+passed_none area n = record {
+  kept = λ j l. absurd (omega arith);
+  ahead = λ j l m. let long : length (replicate n no_start) ≡ n = length-replicate n no_start in get_or-replicate n j no_start 0 (omega arith);
+}
 
 module _ {area starts : List ℕ} {k : ℕ} (p : Passed area starts k) where
   -- the one law of the walk, over the number of the table
   pub passed_kept : (n : ℕ) → n ≤ k → StartKept area starts n
   passed_kept n h = record {
-    room = omega (arith, p.room);
     start = λ l. let e : n - 1 + 1 ≡ n = omega arith in rw e at (p.kept (n - 1) (omega arith));
   }
 
   pub passed_more : {s : ℕ} → k + 1 < length starts → s ≡ start_of area k → stands_at area s ≡ true → Passed area (set starts (k + 1) s) (k + 1)
   passed_more {s} h e f = record {
-    room = omega (arith, length-set starts (k + 1) s);
     kept = λ j l.
         by_eqb j k
         (λ g. rw g (get_or-set_same starts (k + 1) s 0 h ∙ e ∙ sym (kept_there area k (rw e at f))))
@@ -90,7 +94,6 @@ module _ {area starts : List ℕ} {k : ℕ} (p : Passed area starts k) where
   -- behind an absent table there is none to keep
   pub passed_ended : (n : ℕ) → (table_at area (start_of area k)).present ≡ false → k ≤ n → n < length starts → Passed area starts n
   passed_ended n h l m = record {
-    room = m;
     kept = λ j i.
         by_bool (ltb j k)
         (λ g. p.kept j (ltb-true j k g))
@@ -115,6 +118,6 @@ start-behind area k {s} z e f g =
     sym (rw d at (start-next area (k - 1) (g ∙ ap (table_at area) e) (ap (λ (u : Table). u.present) (g ∙ table_present area s f))))
 
 -- number 0 names none, in every area
-pub none_named : (area : List ℕ) {t : Table} (k : ℕ) → t ≡ table_of [] 0 → k ≡ 0 → (t ≡ table_of area k) × Within area t
+pub none_named : (area : List ℕ) (k : ℕ) → k ≡ 0 → record { present = true; nibbles = 0; start = 0; quantity = 0 } ≡ table_of area k
 unfolding table_of
-none_named area k e z = (rw z e, rw e (record { inside = omega arith }))
+none_named area k z = rw z

@@ -5,17 +5,18 @@ mod by_plan;
 mod plans;
 mod told;
 
-ghost use Rattle.std.specs.Prelude.{◌≡◌, ◌+◌, ◌*◌, ◌-◌, ◌≤◌, ◌<◌, max, true, false, [], length};
-ghost use Rattle.chars.specs.Put.{part};
-ghost use Rattle.chars.specs.Gather.{Gathered, every};
-ghost use Rattle.model.specs.Limits.{longest_reply};
+ghost use Rattle.std.specs.Prelude.{◌≡◌, ◌+◌, ◌*◌, ◌-◌, ◌/◌, ◌%◌, ◌≤◌, ◌<◌, ℕ, max, true, [], length, MatchResult};
+ghost use Rattle.std.specs.List.{list_all};
+ghost use Rattle.chars.specs.Gather.{Gathered};
+ghost use Rattle.model.specs.Limits.{reply_head, longest_reply};
 ghost use Rattle.model.specs.Frame.{asked};
 ghost use Rattle.model.specs.Config.{has};
 ghost use Rattle.model.specs.Scan.{Fills, in_room};
-ghost use Rattle.model.specs.Tables.{stands_at, table_at, start_of, table_of, sendable, word_in, send_of, table_scan, tables_of};
+ghost use Rattle.model.specs.Tables.{stands_at, table_at, start_of, table_of, table_numbers, table_area, sendable, word_in, send_of, table_scan, tables_of};
 ghost use Rattle.model.specs.Plans.{planned_of};
+ghost use Rattle.model.specs.declared.Outcome.TheVariants.{Done};
 ghost use Rattle.layout.specs.Unit.{unit_in, config_in};
-ghost use Rattle.tables.specs.Judged.{Within, all_sendable, admits, TurnedAway};
+ghost use Rattle.tables.specs.Judged.{Within, all_sendable, LeftTo, TurnedAway};
 ghost use Rattle.tables.specs.Walked.{area_long, Passed, StartKept, Found};
 
 use by_plan::planned_scan;
@@ -25,8 +26,22 @@ pub use plans::replan;
 use points::refused;
 pub use told::start_anew;
 
-// No table starts at the last character of the area, so the start of one fits a character, and this stands for none.
+// How many characters the table area has.
+const AREA: usize = 256;
+
+// How many table numbers there are, 0 among them.
+const EACH: usize = 16;
+
+// No table starts at the last character of the area, so the start of one fits a character, and this stands for none: an Option would be
+// two characters, each written by itself.
 const NO_START: u8 = 255;
+
+// The number of a table that can be asked for.
+#[derive(Clone, Copy)]
+struct Number {
+    value: usize,
+    ghost of_table: { (0 < value) × (value < 16) },
+}
 
 // ST1, ST2 and the table itself.
 #[derive(Clone, Copy)]
@@ -36,23 +51,46 @@ struct Parts {
     own: Table,
 }
 
-fn stands(area: &[u8], s: usize) -> bool
-    requires { (length area.now ≤ area_long) × (s ≤ length area.now) }
-    ensures { result ≡ stands_at area.now s }
-{
-    if area.len() - s < 2 {
-        return false;
+impl Parts {
+    fn words(self) -> usize
+        ensures { result ≡ self.one.quantity + self.two.quantity + self.own.quantity }
+    {
+        usize::from(self.one.quantity)
+            + usize::from(self.two.quantity)
+            + usize::from(self.own.quantity)
     }
-    let n = chars::wide(area[s + 1]);
-    if area.len() < s + 2 + n {
-        return false;
-    }
-    let nibbles = area[s];
-    if nibbles == 0 { n != 0 } else { true }
 }
 
-fn standing(area: &[u8], s: usize) -> Table
-    requires { (length area.now ≤ area_long) × (stands_at area.now s ≡ true) }
+fn area_of<'a>(unit: &'a [u8; UNIT]) -> &'a [u8; AREA]
+    ensures { result.now ≡ table_area (unit_in unit.now).fixed }
+{
+    layout::fixed_of(unit)[16..272].try_into().unwrap()
+}
+
+// A table with no numbers: absent, or present as what number 0 names. Of constants the compiler would copy the padding too.
+fn empty(present: bool) -> Table
+    ensures { result ≡ record { present = present; nibbles = 0; start = 0; quantity = 0 } }
+{
+    Table {
+        present,
+        nibbles: 0,
+        start: 0,
+        quantity: 0,
+    }
+}
+
+fn stands(area: &[u8; AREA], s: usize) -> bool
+    requires { s ≤ area_long }
+    ensures { result ≡ stands_at area.now s }
+{
+    let [nibbles, quantity, numbers @ ..] = &area[s..] else {
+        return false;
+    };
+    usize::from(*quantity) <= numbers.len() && (*nibbles != 0 || *quantity != 0)
+}
+
+fn standing(area: &[u8; AREA], s: usize) -> Table
+    requires { stands_at area.now s ≡ true }
     ensures value { result ≡ table_at area.now s }
     ensures within { Within area.now result }
 {
@@ -64,254 +102,206 @@ fn standing(area: &[u8], s: usize) -> Table
     }
 }
 
-fn table_at(area: &[u8], s: usize) -> Table
-    requires { (length area.now ≤ area_long) × (s ≤ length area.now) }
+fn table_at(area: &[u8; AREA], s: usize) -> Table
+    requires { s ≤ area_long }
     ensures value { result ≡ table_at area.now s }
     ensures within { Within area.now result }
 {
     if stands(area, s) {
         standing(area, s)
     } else {
-        Table {
-            present: false,
-            nibbles: 0,
-            start: 0,
-            quantity: 0,
-        }
+        empty(false)
     }
-}
-
-// Number 0 names none, which is there with no numbers.
-fn none() -> Table
-    ensures { result ≡ table_of [] 0 }
-{
-    Table {
-        present: true,
-        nibbles: 0,
-        start: 0,
-        quantity: 0,
-    }
-}
-
-fn later(a: u8, b: u8) -> u8
-    ensures { result ≡ max a b }
-{
-    if a < b {
-        return b;
-    }
-    a
 }
 
 // Past tables from + 1 to to, each kept at its number; where the next would start. It ends at the first that is absent: so are all after it.
-fn walk(area: &[u8], starts: &mut [u8], s: usize, from: u8, to: u8) -> usize
-    requires area_len_bound { (length area.now ≤ area_long) × (to < length starts.old) }
-    requires s_value { (s ≡ start_of area.now from) × (s ≤ length area.now) × Passed area.now starts.old from }
-    ensures value { (result ≡ start_of area.now (max from to)) × (result ≤ length area.now) }
+fn walk(area: &[u8; AREA], starts: &mut [u8; EACH], s: usize, from: usize, to: usize) -> usize
+    requires to_bound { to < 16 }
+    requires s_value { (s ≡ start_of area.now from) × (s ≤ area_long) × Passed area.now starts.old from }
+    ensures value { (result ≡ start_of area.now (max from to)) × (result ≤ area_long) }
     ensures passed { Passed area.now starts.new (max from to) }
 {
     let mut next = s;
     for k in from..to {
         let t = table_at(area, next);
-        if t.present {
-            starts[(k + 1) as usize] = next as u8;
-            next = t.start + (t.quantity as usize);
-        } else {
-            return area.len();
+        if !t.present {
+            return AREA;
         }
+        starts[k + 1] = next as u8;
+        next = t.start + usize::from(t.quantity);
     }
     next
 }
 
-// A table that was passed is not judged again; at the area's end stands none.
-fn named(area: &[u8], starts: &[u8], k: u8) -> Table
-    requires { (length area.now ≤ area_long) × StartKept area.now starts.now k }
+// A table that was passed is not judged again.
+fn named(area: &[u8; AREA], starts: &[u8; EACH], k: usize) -> Table
+    requires { (k < 16) × StartKept area.now starts.now k }
     ensures value { result ≡ table_of area.now k }
     ensures within { Within area.now result }
 {
     if k == 0 {
-        return none();
+        return empty(true);
     }
-    let s = starts[k as usize];
-    if s == NO_START {
-        return table_at(area, area.len());
+    match starts[k] {
+        NO_START => empty(false),
+        s => standing(area, usize::from(s)),
     }
-    standing(area, chars::wide(s))
 }
 
-// What the nibbles of table k at s name lies before it, and is kept, or behind it, and the walk goes on.
-fn follow(area: &[u8], starts: &mut [u8], s: usize, k: u8) -> Parts
-    requires k_nonzero { (0 < k) × (k ≤ 15) × (length starts.old ≡ 16) × (length area.now ≤ area_long) }
-    requires s_value { (s ≡ start_of area.now (k - 1)) × (stands_at area.now s ≡ true) × Passed area.now starts.old (k - 1) }
-    ensures { Found area.now k result }
+// Only the nibbles of the table itself are followed.
+fn with_named(area: &[u8; AREA], starts: &[u8; EACH], own: Table) -> Parts
+    requires one { StartKept area.now starts.now (own.nibbles / 16) }
+    requires two { StartKept area.now starts.now (own.nibbles % 16) }
+    requires within { Within area.now own }
+    ensures { (k : ℕ) → own ≡ table_of area.now k → Found area.now k result }
 {
-    let own = standing(area, s);
-    let nibbles = own.nibbles;
-    let last = later(nibbles / 16, nibbles % 16);
-    starts[k as usize] = s as u8;
-    walk(area, starts, own.start + (own.quantity as usize), k, last);
-    let one = named(area, starts, own.nibbles / 16);
-    let two = named(area, starts, own.nibbles % 16);
-    Parts {
-        one: one,
-        two: two,
-        own: own,
-    }
+    let one = named(area, starts, usize::from(own.nibbles / 16));
+    let two = named(area, starts, usize::from(own.nibbles % 16));
+    Parts { one, two, own }
+}
+
+// What the nibbles of table k, own at s, name lies before it, and is kept, or behind it, and the walk goes on.
+fn follow(area: &[u8; AREA], starts: &mut [u8; EACH], s: usize, k: Number, own: Table)
+    requires s_value { (s ≡ start_of area.now (k.value - 1)) × (stands_at area.now s ≡ true) × (own ≡ table_at area.now s) }
+    requires passed { Passed area.now starts.old (k.value - 1) }
+    requires within { Within area.now own }
+    ensures { Passed area.now starts.new (max k.value (max (own.nibbles / 16) (own.nibbles % 16))) }
+{
+    starts[k.value] = s as u8;
+    let last = (own.nibbles / 16).max(own.nibbles % 16);
+    walk(
+        area,
+        starts,
+        own.start + usize::from(own.quantity),
+        k.value,
+        usize::from(last),
+    );
 }
 
 // Nibbles are known once their table is reached, and most tables have none.
-fn find(area: &[u8], starts: &mut [u8], k: u8) -> Parts
-    requires { (0 < k) × (k ≤ 15) × (length starts.old ≡ 16) × (length area.now ≤ area_long) × Passed area.now starts.old 0 }
-    ensures { Found area.now k result }
+fn parts_of(area: &[u8; AREA], k: Number) -> Parts
+    ensures { Found area.now k.value result }
 {
-    let s = walk(area, starts, 0, 0, k - 1);
+    let mut starts = [NO_START; EACH];
+    let s = walk(area, &mut starts, 0, 0, k.value - 1);
     let own = table_at(area, s);
     if own.nibbles == 0 {
+        let none = empty(true);
         return Parts {
-            one: none(),
-            two: none(),
-            own: own,
+            one: none,
+            two: none,
+            own,
         };
     }
-    follow(area, starts, s, k)
+    follow(area, &mut starts, s, k, own);
+    with_named(area, &starts, own)
 }
 
-fn parts_of(area: &[u8], k: u8) -> Parts
-    requires { (0 < k) × (k ≤ 15) × (length area.now ≤ area_long) }
-    ensures { Found area.now k result }
+fn numbers_of<'a>(area: &'a [u8; AREA], t: Table) -> &'a [u8]
+    requires { Within area.now t }
+    ensures value { result.now ≡ table_numbers area.now t }
+    ensures len { length result.now ≡ t.quantity }
 {
-    let mut starts: [u8; 16] = [NO_START; 16];
-    find(area, &mut starts, k)
+    &area[t.start..t.start + usize::from(t.quantity)]
 }
 
-// Whether each of the n numbers of area from index from on is equipped.
-fn equipped(unit: &[u8; UNIT], area: &[u8], from: usize, n: usize) -> bool
-    requires { from + n ≤ length area.now }
-    ensures { result ≡ every (has (config_in unit.now).inputs) (part area.now from n) }
+fn are_equipped(unit: &[u8; UNIT], numbers: &[u8]) -> bool
+    ensures { result ≡ list_all (has (config_in unit.now).inputs) numbers.now }
 {
-    for i in 0..n {
-        if layout::has_input(unit, Input(area[from + i])) {} else {
-            return false;
-        }
-    }
-    true
+    numbers
+        .iter()
+        .all(|number| layout::has_input(unit, Input(*number)))
 }
 
-fn can_send(unit: &[u8; UNIT], area: &[u8], t: Table) -> bool
+fn can_send(unit: &[u8; UNIT], area: &[u8; AREA], t: Table) -> bool
     requires { Within area.now t }
     ensures { result ≡ sendable (config_in unit.now).inputs area.now t }
 {
-    if t.present {
-        equipped(unit, area, t.start, t.quantity as usize)
-    } else {
-        false
-    }
+    t.present && are_equipped(unit, numbers_of(area, t))
 }
 
-fn can_send_all(unit: &[u8; UNIT], area: &[u8], one: Table, two: Table, own: Table) -> bool
-    requires { Within area.now one × Within area.now two × Within area.now own }
-    ensures { result ≡ all_sendable (config_in unit.now).inputs area.now one two own }
+fn can_send_all(unit: &[u8; UNIT], area: &[u8; AREA], parts: Parts) -> bool
+    requires { Within area.now parts.one × Within area.now parts.two × Within area.now parts.own }
+    ensures { result ≡ all_sendable (config_in unit.now).inputs area.now parts.one parts.two parts.own }
 {
-    if can_send(unit, area, own) {
-        if can_send(unit, area, one) {
-            can_send(unit, area, two)
-        } else {
-            false
-        }
-    } else {
-        false
-    }
+    can_send(unit, area, parts.own)
+        && can_send(unit, area, parts.one)
+        && can_send(unit, area, parts.two)
 }
 
-// The words of the n numbers of area from index from on go to reply from index at on; where the next goes.
-fn write(
-    area: &[u8],
-    from: usize,
-    n: usize,
-    unit: &[u8; UNIT],
-    reply: &mut [u8],
-    at: usize,
-) -> usize
-    requires { (from + n ≤ length area.now) × (at + 2 * n ≤ length reply.old) }
-    ensures gathered { Gathered (word_in (unit_in unit.now).words) (part area.now from n)
-        reply.old at reply.new result }
-    ensures value { result ≡ at + 2 * n }
+// The words of these numbers go to reply from index at on; where the next goes.
+fn write(unit: &[u8; UNIT], numbers: &[u8], reply: &mut [u8; Reply::LONGEST], at: usize) -> usize
+    requires { at + 2 * length numbers.now ≤ longest_reply }
+    ensures gathered { Gathered (word_in (unit_in unit.now).words) numbers.now reply.old at reply.new result }
+    ensures value { result ≡ at + 2 * length numbers.now }
 {
     let mut to = at;
-    for i in 0..n {
-        chars::put_word(reply, to, layout::word_of(unit, Input(area[from + i])));
+    for number in numbers {
+        chars::put_word(reply, to, layout::word_of(unit, Input(*number)));
         to += 2;
     }
     to
 }
 
+// An answer whose words end before index end of the reply.
+fn done(end: usize) -> Filled
+    requires { (reply_head ≤ end) × (end ≤ longest_reply) }
+    ensures { result ≡ record { outcome = Done; count = end - reply_head } }
+{
+    Filled {
+        outcome: Outcome::Done,
+        count: (end - Reply::HEAD) as u16,
+    }
+}
+
 // Nothing is written before all three tables and the number of words are judged: a refusal has no data.
 fn send(
     unit: &[u8; UNIT],
-    area: &[u8],
-    one: Table,
-    two: Table,
-    own: Table,
-    reply: &mut [u8],
+    area: &[u8; AREA],
+    parts: Parts,
+    reply: &mut [u8; Reply::LONGEST],
 ) -> Filled
-    requires { (longest_reply ≤ length reply.old) × (Within area.now one × Within area.now two × Within area.now own) }
+    requires { Within area.now parts.one × Within area.now parts.two × Within area.now parts.own }
     ensures { Fills reply.old reply.new
-        (send_of (config_in unit.now).inputs area.now (unit_in unit.now).words one two own) result }
+        (send_of (config_in unit.now).inputs area.now (unit_in unit.now).words parts.one parts.two parts.own) result }
 {
-    if can_send_all(unit, area, one, two, own) {
-        let l = one.quantity as usize;
-        let m = two.quantity as usize;
-        let n = own.quantity as usize;
-        if 255 < l + m + n {
-            return refused(Outcome::TooLong);
-        }
-        let a = write(area, one.start, l, unit, reply, Reply::HEAD);
-        let b = write(area, two.start, m, unit, reply, a);
-        let c = write(area, own.start, n, unit, reply, b);
-        Filled {
-            outcome: Outcome::Done,
-            count: (c - Reply::HEAD) as u16,
-        }
-    } else {
-        refused(Outcome::NotValid)
+    if !can_send_all(unit, area, parts) {
+        return refused(Outcome::NotValid);
     }
+    if 255 < parts.words() {
+        return refused(Outcome::TooLong);
+    }
+    let a = write(unit, numbers_of(area, parts.one), reply, Reply::HEAD);
+    let b = write(unit, numbers_of(area, parts.two), reply, a);
+    let c = write(unit, numbers_of(area, parts.own), reply, b);
+    done(c)
 }
 
-fn table_scan(unit: &[u8; UNIT], area: &[u8], k: u8, reply: &mut [u8]) -> Filled
-    requires { (0 < k) × (k ≤ 15) × (length area.now ≤ area_long) × (longest_reply ≤ length reply.old) }
+fn table_scan(
+    unit: &[u8; UNIT],
+    area: &[u8; AREA],
+    k: Number,
+    reply: &mut [u8; Reply::LONGEST],
+) -> Filled
     ensures { Fills reply.old reply.new
-        (table_scan (config_in unit.now).inputs area.now (unit_in unit.now).words k) result }
+        (table_scan (config_in unit.now).inputs area.now (unit_in unit.now).words k.value) result }
 {
-    let parts = parts_of(area, k);
-    let one = parts.one;
-    let two = parts.two;
-    let own = parts.own;
-    send(unit, area, one, two, own, reply)
+    send(unit, area, parts_of(area, k), reply)
 }
 
-// A request for a table, with room for any reply.
-fn admitted(frame: Frame, body: &[u8], room: usize) -> bool
-    ensures { result ≡ admits room (asked frame body.now) }
+// The number of the table that a request asks for, by whichever scan.
+fn number_asked(frame: Frame, body: &[u8]) -> Result<Number, Outcome>
+    ensures { MatchResult result (λ k. LeftTo (asked frame body.now) k.value) (TurnedAway (asked frame body.now)) }
 {
-    let command = frame.command;
-    Reply::LONGEST <= room && (0x41 <= command && (command <= 0x4F && body.len() == 0))
-}
-
-// Any other, by whichever scan.
-fn turned_away(frame: Frame, body: &[u8], room: usize) -> Filled
-    requires { admits room (asked frame body.now) ≡ false }
-    ensures { TurnedAway room (asked frame body.now) result }
-{
-    let command = frame.command;
-    if room < Reply::LONGEST {
-        return refused(Outcome::BufferShort);
+    if !(0x41..=0x4F).contains(&frame.command) {
+        return Err(Outcome::Unknown);
     }
-    if command < 0x41 {
-        return refused(Outcome::Unknown);
+    if !body.is_empty() {
+        return Err(Outcome::WrongCount);
     }
-    if 0x4F < command {
-        return refused(Outcome::Unknown);
-    }
-    refused(Outcome::WrongCount)
+    Ok(Number {
+        value: usize::from(frame.command - 0x40),
+    })
 }
 
 pub fn scan<'a>(unit: &'a [u8; UNIT], frame: Frame, body: &'a [u8], reply: &mut [u8]) -> Filled
@@ -320,26 +310,27 @@ pub fn scan<'a>(unit: &'a [u8; UNIT], frame: Frame, body: &'a [u8], reply: &mut 
         (tables_of (config_in unit.now).inputs (unit_in unit.now).fixed (unit_in unit.now).words
         (asked frame body.now))) result }
 {
-    if admitted(frame, body, reply.len()) {
-        chars::told_long(unit);
-        let fixed = layout::fixed_of(unit);
-        // No remainder: with one the compiler keeps the command twice, at the cost of every function.
-        return table_scan(unit, &fixed[16..272], frame.command - 0x40, reply);
+    let Some(reply) = reply.first_chunk_mut() else {
+        return refused(Outcome::BufferShort);
+    };
+    match number_asked(frame, body) {
+        Ok(k) => table_scan(unit, area_of(unit), k, reply),
+        Err(outcome) => refused(outcome),
     }
-    turned_away(frame, body, reply.len())
 }
 
-// By the plan of the table.
+// By the plan of the table. One call differs: a closure in its place would need a contract on what it leaves in the reply.
 pub fn planned<'a>(unit: &'a [u8; UNIT], frame: Frame, body: &'a [u8], reply: &mut [u8]) -> Filled
     ensures { Fills reply.old reply.new
         (in_room (length reply.old)
         (planned_of (unit_in unit.now).plans (unit_in unit.now).fixed (unit_in unit.now).words
         (asked frame body.now))) result }
 {
-    if admitted(frame, body, reply.len()) {
-        chars::told_long(unit);
-        let fixed = layout::fixed_of(unit);
-        return planned_scan(unit, &fixed[16..272], frame.command - 0x40, reply);
+    let Some(reply) = reply.first_chunk_mut() else {
+        return refused(Outcome::BufferShort);
+    };
+    match number_asked(frame, body) {
+        Ok(k) => planned_scan(unit, area_of(unit), k, reply),
+        Err(outcome) => refused(outcome),
     }
-    turned_away(frame, body, reply.len())
 }

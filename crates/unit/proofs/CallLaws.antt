@@ -1,5 +1,6 @@
 -- A run of calls of the proved entries gives the state and the trace that the definition gives, and is the run over lent characters by the
 -- packed layout. Assumes nothing.
+use Rattle.std.specs.Prelude.{None}
 use Rattle.std.proofs.Common.{◌≡◌, ℕ, ◌≤◌, List, [], ◌∷◌, map, length, take, sym, refl, ap, ◌∙◌, arith}
 use Rattle.chars.proofs.PutLaws.{take-put_front}
 use Rattle.model.specs.Config.{Config, is_mean}
@@ -11,7 +12,6 @@ use Rattle.model.specs.Step.{Made as MadeOf, quiet, elapsed_made, local_made, wo
 use Rattle.model.specs.Port.{sent_chars}
 use Rattle.model.specs.Run.{Result, Entry, short, turned_away, shows, decided, result_of, next_of, change_of, entry_of, after_from, trace_from}
 use Rattle.model.specs.declared.Answer.{Answer}
-use Rattle.model.specs.declared.Action.TheVariants.{Rest}
 use Rattle.layout.specs.Records.{room_of, packed}
 use Rattle.layout.specs.Kept.{Kept, kept_of, state_of}
 use Rattle.layout.proofs.RecordsLaws.{packed-serves}
@@ -44,7 +44,7 @@ shown-turn c {k} {l} {lag} {s} {entry} {exit} {r} t =
 
 -- an event that is no stretch operates and sends nothing
 pub record Still (x : Result) : Type 0 where
-  pub action : x.action ≡ Rest
+  pub action : x.action ≡ None
   pub reply : x.reply ≡ []
 
 still-local : (c : Config) (s : State) (e : Local) → Still (shows s.port (local_of c s.inner e))

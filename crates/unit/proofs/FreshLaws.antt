@@ -1,14 +1,11 @@
--- A fresh unit: what is cleared character by character, and the state that what is laid and cleared stands for. Assumes nothing.
-use Rattle.std.proofs.Common.{◌≡◌, ℕ, ◌+◌, ◌≤◌, true, List, length, take, set, replicate, sym, refl, ap, ◌∙◌, arith, take_all, eq-eqb, le-leb}
-use lib.ListN.{length-replicate, replicate-append-replicate}
-use Rattle.chars.specs.Put.{put}
-use Rattle.chars.proofs.PutLaws.{length-put, put-none, put-more, take-put_front}
+-- A fresh unit: the state that what is laid and cleared stands for. Assumes nothing.
+use Rattle.std.proofs.Common.{◌≡◌, ℕ, ◌≤◌, true, List, length, replicate, sym, refl, ap, ◌∙◌, eq-eqb, le-leb}
 use Rattle.model.specs.Config.{Config}
 use Rattle.model.specs.State.{fresh_core, fresh_areas, fresh_history, fresh_port, fresh_of}
 use Rattle.model.specs.Tables.{table_area}
 use Rattle.model.specs.Plans.{plans_of, empty_plans}
 use Rattle.model.specs.Port.{mark_number}
-use Rattle.model.specs.declared.Memory.TheVariants.{Nothing}
+use Rattle.std.specs.Prelude.{None}
 use Rattle.model.proofs.Conditions.{and_both}
 use Rattle.model.proofs.PlanLaws.{plans-long, plans-empty}
 use Rattle.layout.specs.Records.{packed, room_of}
@@ -39,29 +36,13 @@ use Rattle.layout.proofs.BlankLaws.{blank_long, blank_means}
 use Rattle.layout.specs.Kept.{kept_of, state_of, owned_of, kept_in, standing}
 use Rattle.unit.specs.Fresh.{fresh_unit, FreshPromise}
 
--- ---- the loop
-
-pub zero-none : (xs : List ℕ) → xs ≡ put xs 0 (replicate 0 0)
-zero-none xs = sym (put-none xs 0)
-
-pub zero_more : (xs : List ℕ) (i : ℕ) {ys : List ℕ} → ys ≡ put xs 0 (replicate i 0) → set ys i 0 ≡ put xs 0 (replicate (i + 1) 0)
-zero_more xs i e =
-    rw e (put-more xs 0 (replicate i 0) 0 i (omega (arith, length-replicate {A = ℕ} i 0)) ∙ ap (put xs 0) (replicate-append-replicate {A = ℕ} i 1 0))
-
-pub zero-all : (xs : List ℕ) (i : ℕ) {ys : List ℕ} → i ≡ length xs → ys ≡ put xs 0 (replicate i 0) → ys ≡ replicate (length xs) 0
-zero-all xs i {ys} l e =
-    let n : length (replicate {A = ℕ} i 0) ≡ i = length-replicate {A = ℕ} i 0 in
-    let z : take (length (replicate {A = ℕ} i 0)) (put xs 0 (replicate i 0)) ≡ replicate i 0 = take-put_front xs (replicate i 0) (omega arith) in
-    let w : take (length (replicate {A = ℕ} i 0)) ys ≡ ys = take_all (length (replicate {A = ℕ} i 0)) ys (omega (arith, ap length e, length-put xs 0 (replicate i 0))) in
-    sym w ∙ rw e z ∙ ap (λ (k : ℕ). replicate {A = ℕ} k 0) l
-
 -- ---- the numbers
 
-pub fresh-written : Written fresh_core Nothing fresh_port (numbers_of fresh_core Nothing fresh_port)
+pub fresh-written : Written fresh_core None fresh_port (numbers_of fresh_core None fresh_port)
 unfolding fresh_core fresh_port numbers_of core_in memory_in port_in clock_in hold_numbers write_numbers memory_numbers mark_number bit_of hold_in write_in reply_in mark_in
 fresh-written = record { plain = refl; means = record { core = refl; memory = refl; port = refl } }
 
-fresh-numbers : (c : Config) → put_configure true (put_clock (record { day = 1; hour = 0; minute = 0; second = 0; ms = 0 }) (blank_of c).numbers) ≡ numbers_of fresh_core Nothing fresh_port
+fresh-numbers : (c : Config) → put_configure true (put_clock (record { day = 1; hour = 0; minute = 0; second = 0; ms = 0 }) (blank_of c).numbers) ≡ numbers_of fresh_core None fresh_port
 unfolding fresh_core fresh_port numbers_of hold_numbers write_numbers memory_numbers mark_number bit_of
 fresh-numbers c = refl
 
@@ -74,14 +55,14 @@ unfolding start_in
 fresh_kept cs {u} {v} {w} {x} l e a b f =
     let r = renumbered_then (put_configure true) u v w a b in
     let m : unit_in u ≡ blank_of (config_given cs) = ap unit_in e ∙ blank_means cs l in
-    let n : unit_in w ≡ set_numbers (blank_of (config_given cs)) (numbers_of fresh_core Nothing fresh_port) =
+    let n : unit_in w ≡ set_numbers (blank_of (config_given cs)) (numbers_of fresh_core None fresh_port) =
     r.means
     ∙ ap (λ (x : Unit). set_numbers x (put_configure true (put_clock (record { day = 1; hour = 0; minute = 0; second = 0; ms = 0 }) x.numbers))) m
     ∙ ap (set_numbers (blank_of (config_given cs))) (fresh-numbers (config_given cs)) in
     let long : length w ≡ unit_long = r.long ∙ ap length e ∙ blank_long cs in (
       ap unit_in f ∙ plans-written w _ long (plans-long (config_in w).inputs (table_area (unit_in w).fixed))
           ∙ ap (λ (x : Unit). set_plans x (plans_of x.config.inputs (table_area x.fixed))) n
-          ∙ ap (set_plans (set_numbers (blank_of (config_given cs)) (numbers_of fresh_core Nothing fresh_port))) (plans-empty (config_given cs).inputs),
+          ∙ ap (set_plans (set_numbers (blank_of (config_given cs)) (numbers_of fresh_core None fresh_port))) (plans-empty (config_given cs).inputs),
       ap length f ∙ length-put_in w plans_region 0 _ ∙ long,
     )
 
@@ -92,7 +73,7 @@ module _ (cs : List ℕ) {n : ℕ} (as_said : n ≡ (config_given cs).block) {u 
   pub laid-config : config_in u ≡ config_given cs
   laid-config = ap (λ (x : Unit). x.config) f.means
 
-  laid-numbers : numbers_in u ≡ numbers_of fresh_core Nothing fresh_port
+  laid-numbers : numbers_in u ≡ numbers_of fresh_core None fresh_port
   laid-numbers = ap (λ (x : Unit). x.numbers) f.means
 
   blank : bl ≡ replicate (config_in u).block 0

@@ -1,19 +1,18 @@
 -- The mean of samples where they lie, and one sample more there. Assumes nothing.
-use Rattle.std.proofs.Common.{◌≡◌, ℕ, zero, suc, ◌+◌, ◌-◌, ◌*◌, ◌/◌, ◌%◌, ◌^◌, ◌<◌, ◌≤◌, Bool, true, cond, not, T, ltb, List, [], ◌∷◌, ◌++◌, length, get_or, drop, set, ℤ, pos, negsuc, ◌-ℤ◌, nat_abs, sym, refl, ap, ◌∙◌, subst, add-one, arith, le→leb, lt→ltb, length-append, get_or-drop, pow_pos, w32, SFits, to_z, of_z, ltb-false, ltb-true, le-ltb, lt-ltb}
+use Rattle.std.proofs.Common.{◌≡◌, ℕ, zero, suc, ◌+◌, ◌-◌, ◌*◌, ◌/◌, ◌%◌, ◌^◌, ◌<◌, ◌≤◌, Bool, true, cond, not, T, ltb, List, [], ◌∷◌, ◌++◌, length, get_or, drop, set, pos, nat_abs, sym, refl, ap, ◌∙◌, subst, add-one, arith, length-append, get_or-drop, pow_pos, w16, to_z, le-ltb, lt-ltb}
 use native.Mathlib.Decide.{dec_lt}
-use lib.Ieee.{Float, binary32, in_float, of_int, of_bits, of_fields, round, add, div, is_nan, to_bits}
-use mir.ValLaws.{to_z_pos, to_z-of_z}
+use lib.Ieee.{Float, binary32, of_int, of_bits, of_fields, round, add, div, is_nan, to_bits}
 use Rattle.chars.specs.Put.{put, part}
 use Rattle.chars.specs.Word.{Characters, word, word_at}
 use Rattle.chars.specs.Gather.{gather}
-use Rattle.chars.proofs.PutLaws.{put-put, put-own, put_then, drop-put, part_none, part-more, part_add, length_part}
-use Rattle.chars.proofs.WordLaws.{put_two}
+use lib.ListN.{set}
+use Rattle.chars.proofs.PutLaws.{put_one, put-more, put-put, put-own, put_then, drop-put, part_none, part-more, part_add, length_part}
 use Rattle.chars.proofs.GatherLaws.{gather-more}
 use Rattle.model.specs.Config.{analog_at, window_at, is_power}
 use Rattle.model.specs.Means.{signed_of, sum_of, mean_of, last_of, sampled_of}
 use Rattle.model.specs.declared.Input.{Input}
 use Rattle.model.specs.declared.Sampled.TheVariants.{Ready, NotReady}
-use Rattle.model.proofs.Conditions.{by_bool, by_cond}
+use Rattle.model.proofs.Conditions.{by_bool}
 use Rattle.model.proofs.Exact.{add_whole, signed_most, sum_most, sum_more, power, power_most, mean_number}
 use Rattle.model.proofs.Sampling.{last-short}
 use Rattle.model.proofs.SampleLaws.{length_last}
@@ -22,35 +21,15 @@ use Rattle.layout.specs.Records.{records_room, windows_to, words_from, packed}
 use Rattle.layout.proofs.MeansLaws.{length_from}
 use Rattle.unit.specs.Samples.{slid, slid_in, put_mean, TakePromise}
 
+-- stores side by side are one run
+put_two : (l : List ℕ) (i a b : ℕ) → set (set l i a) (i + 1) b ≡ put l i (a ∷ b ∷ [])
+put_two l i a b = rw (← put_one l i a) (put-more l i (a ∷ []) b (i + 1) (omega arith))
+
 -- ---- a word as a float
 
--- 32,768 more, as words go, and 32,768 less
-lowered : (w v : ℕ) → v ≡ (w + 32768) % 65536 → w < 65536 → to_z w32 v -ℤ pos 32768 ≡ signed_of w
+pub signed_is : (w : ℕ) → to_z w16 w ≡ signed_of w
 unfolding signed_of
-lowered w v e h =
-    ap (λ (z : ℤ). z -ℤ pos 32768) (to_z_pos w32 v (omega arith))
-    ∙ by_bool (ltb w 32768)
-    (λ b. let l = ltb-true w 32768 b in let z : v - 32768 ≡ w = omega arith in rw (b, le-ltb v 32768 (omega arith)) (ap pos z))
-    (λ b. let l = ltb-false w 32768 b in let z : 32768 - suc v ≡ 65535 - w = omega arith in rw (b, lt-ltb v 32768 (omega arith)) (ap negsuc z))
-
-signed_fits : (w : ℕ) → SFits w32 (signed_of w)
-unfolding signed_of
-signed_fits w = by_cond (SFits w32) (ltb w 32768) (λ b. let l = ltb-true w 32768 b in record { sfits = omega arith }) (λ b. record { sfits = omega arith })
-
-module _ (w v : ℕ) (e : v ≡ (w + 32768) % 65536) (h : w < 65536) where
-  pub lowered_fits : SFits w32 (to_z w32 v -ℤ pos 32768)
-  lowered_fits = subst (SFits w32) (sym (lowered w v e h)) (signed_fits w)
-
-  pub signed_is : to_z w32 (of_z w32 (to_z w32 v -ℤ pos 32768)) ≡ signed_of w
-  signed_is = to_z-of_z w32 _ lowered_fits ∙ lowered w v e h
-
-whole_float : (z : ℤ) → nat_abs z ≤ 32768 → T (in_float binary32 z)
-unfolding in_float
-whole_float (pos a) h = le→leb a (2 ^ 24) (omega arith)
-whole_float (negsuc a) h = lt→ltb a (2 ^ 24) (omega arith)
-
-pub signed_float : (w v : ℕ) → v ≡ (w + 32768) % 65536 → w < 65536 → T (in_float binary32 (to_z w32 (of_z w32 (to_z w32 v -ℤ pos 32768))))
-signed_float w v e h = subst (λ (z : ℤ). T (in_float binary32 z)) (sym (signed_is w v e h)) (whole_float (signed_of w) (signed_most w))
+signed_is w = by_bool (ltb w 32768) (λ b. rw b) (λ b. let z : 65536 - suc w ≡ 65535 - w = omega arith in rw (b, z))
 
 -- ---- the sum of words where they lie
 
@@ -209,11 +188,12 @@ module _ (area : List ℕ) (at by i : ℕ) {us : List ℕ} (room : at + by + 2 *
       ∙ ap (put area at) (sym (ap (part area (at + by)) (sym z) ∙ part_add area (at + by) (2 * i) 2 ∙ ap (λ (ys : List ℕ). part area (at + by) (2 * i) ++ ys) (pair area (at + by + 2 * i) (omega arith))))
 
   pub sum_turn : {sum x : Float} → i < 256 → sum ≡ of_int binary32 (sum_of (words_from area (at + by) i))
-      → x ≡ of_int binary32 (signed_of (get_or us (at + 2 * i + by) 0 + 256 * get_or us (at + 2 * i + by + 1) 0))
+      → x ≡ of_int binary32 (signed_of (get_or us (at + 2 * i + by) 0 + get_or us (at + 2 * i + by + 1) 0 * 256))
       → add binary32 sum x ≡ of_int binary32 (sum_of (words_from area (at + by) (i + 1)))
   unfolding word_at
   sum_turn h s t =
-      sum_one (words_from area (at + by) i) _ (omega (arith, length_from area (at + by) i)) s t
+      let z : get_or us (at + 2 * i + by + 1) 0 * 256 ≡ 256 * get_or us (at + 2 * i + by + 1) 0 = omega arith in
+      sum_one (words_from area (at + by) i) _ (omega (arith, length_from area (at + by) i)) s (rw z at t)
       ∙ (λ j. of_int binary32 (sum_of (words_from area (at + by) i ++ ((low_is j + 256 * high_is j) ∷ []))))
       ∙ ap (λ (ws : List ℕ). of_int binary32 (sum_of ws)) (sym (from_more area (at + by) i))
 

@@ -1,5 +1,5 @@
 -- A sample keeps its promise, and so does one for a number that is no mean. Assumes nothing.
-use Rattle.std.proofs.Common.{◌≡◌, ℕ, ◌+◌, ◌*◌, ◌<◌, ◌≤◌, true, false, List, [], ◌∷◌, ◌++◌, length, get_or, set, sym, refl, ap, ◌∙◌, subst, arith, le-ltb, lt-ltb}
+use Rattle.std.proofs.Common.{◌≡◌, ℕ, ◌+◌, ◌*◌, ◌<◌, ◌≤◌, true, false, cond, Option, Some, None, List, [], ◌∷◌, ◌++◌, length, get_or, set, sym, refl, ap, ◌∙◌, subst, arith, le-ltb, lt-ltb}
 use lib.Ieee.{binary32, to_bits}
 use Rattle.chars.specs.Put.{put}
 use Rattle.chars.specs.Word.{word, value}
@@ -20,7 +20,7 @@ use Rattle.model.specs.declared.Sampled.{Sampled}
 use Rattle.model.specs.declared.Sampled.TheVariants.{Ready, NotReady}
 use Rattle.model.specs.declared.Outcome.TheVariants.{NotValid}
 use Rattle.model.specs.declared.Answer.TheVariants.{Ended, Sampling}
-use Rattle.model.proofs.Conditions.{false-true}
+use Rattle.model.proofs.Conditions.{false-true, by_bool}
 use Rattle.model.proofs.TurnedAway.{works}
 use Rattle.model.proofs.Sampling.{Found, found, Placed, placed, number-low}
 use Rattle.layout.specs.Unit.{Unit, unit_long, results_region, taken_region, unit_in, config_in, numbers_in, set_values, set_taken, put_taken}
@@ -43,13 +43,18 @@ use Rattle.unit.proofs.EventLaws.{taken-long, event-read, event-means}
 
 -- ---- by the place that was found
 
-pub mean_found : (c : Config) (n : ℕ) {p : ℕ} → p ≡ place_of c n → p < 16 → is_mean c n ≡ true
-unfolding is_mean
-mean_found c n e h = lt-ltb (place_of c n) 16 (omega (arith, e))
+module _ (c : Config) (n : ℕ) {r : Option ℕ} (e : r ≡ cond (is_mean c n) (Some (place_of c n)) None) where
+  pub mean_found : (p : ℕ) → r ≡ Some p → (is_mean c n ≡ true) × (p ≡ place_of c n)
+  mean_found p h =
+      by_bool (is_mean c n)
+      (λ b. (b, let z : Some p ≡ Some (place_of c n) = sym h ∙ e ∙ rw b in cc))
+      (λ b. let z : Some p ≡ None = sym h ∙ e ∙ rw b in cc)
 
-pub no_mean : (c : Config) (n : ℕ) {p : ℕ} → p ≡ place_of c n → 16 ≤ p → is_mean c n ≡ false
-unfolding is_mean
-no_mean c n e h = le-ltb (place_of c n) 16 (omega (arith, e))
+  pub no_mean : r ≡ None → is_mean c n ≡ false
+  no_mean h =
+      by_bool (is_mean c n)
+      (λ b. let z : Some (place_of c n) ≡ None = sym (sym h ∙ e ∙ rw b) in cc)
+      (λ b. b)
 
 pub at_place : {u area v area' : List ℕ} {p q n : ℕ} {r : Sampled} → p ≡ q → TakePromise u area p n v area' r → TakePromise u area q n v area' r
 at_place {u} {area} {v} {area'} {n = n} {r = r} e t = subst (λ (p : ℕ). TakePromise u area p n v area' r) e t

@@ -1,11 +1,10 @@
 -- A run of calls of the entries: what each found, what it was called with, what it showed, and what it left.
-use Rattle.std.specs.Prelude.{◌≡◌, ℕ, List, [], ◌∷◌, take, ◌≢◌}
+use Rattle.std.specs.Prelude.{None, ℕ, List, [], ◌∷◌, take, ◌≢◌}
 use Rattle.model.specs.Config.{Config}
 use Rattle.model.specs.Event.{Stretch, Event, stretch}
 use Rattle.model.specs.Run.{Result, Entry}
 use Rattle.model.specs.declared.Answer.{Answer}
 use Rattle.model.specs.declared.Answer.TheVariants.{Ended}
-use Rattle.model.specs.declared.Action.TheVariants.{Rest}
 use Rattle.layout.specs.Kept.{Kept}
 use Rattle.unit.specs.Events.{Heeds}
 use Rattle.serve.specs.Stretch.{coming, Turns}
@@ -26,7 +25,7 @@ made_shown r exit = record { answer = Ended r.outcome; action = r.action; reply 
 
 -- what any other event showed: its answer alone
 abbrev pub answered_by : Answer → Result
-answered_by a = record { answer = a; action = Rest; reply = [] }
+answered_by a = record { answer = a; action = None; reply = [] }
 
 -- calls in turn, each as its entry has it where the numbers are readable, on what the one before left
 pub data Calls (c : Config) : Kept → List Event → List Result → Kept → Type 0 where

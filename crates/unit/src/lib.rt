@@ -1,6 +1,7 @@
 // The entries of a unit, over all that its owner lends: fresh, a stretch, time, and the local events.
 #![tactic(auto)]
 
+mod heed;
 mod local;
 mod samples;
 mod start;

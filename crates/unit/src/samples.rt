@@ -21,12 +21,11 @@ use model::{Answer, Outcome, Sampled, SpecialCalculation};
 
 // ---- the mean of words that stand in lent characters
 
-// An analog's word is two's complement: 32,768 more, as words go, and 32,768 less. Samples of either sign take the same way here.
+// An analog's word is two's complement. Samples of either sign take the same way here.
 fn signed(word: u16) -> f32
     ensures { result ≡ of_int binary32 (signed_of word) }
 {
-    let raised = std::num::wrapping_add_u16(word, 32768);
-    (raised as i32 - 32768) as f32
+    f32::from(word.cast_signed())
 }
 
 // The n words from by past index at on go down to index at on, in the one pass that sums them. The caller knows that they fit.
@@ -36,15 +35,13 @@ fn slide(records: &mut [u8], at: usize, by: usize, n: usize) -> f32
     ensures records_after { records.new ≡ put records.old at (part records.old (at + by) (2 * n)) }
 {
     let mut sum = 0.0;
-    let mut i = 0;
-    while i < n {
+    for i in 0..n {
         let to = at + 2 * i;
         let low = records[to + by];
         let high = records[to + by + 1];
         records[to] = low;
         records[to + 1] = high;
-        sum = sum + signed(low as u16 + 256 * (high as u16));
-        i += 1;
+        sum += signed(u16::from_le_bytes([low, high]));
     }
     sum
 }
@@ -57,10 +54,10 @@ fn mean(records: &mut [u8], at: usize, held: u16, n: u16, sample: u16) -> f32
     ensures value { result ≡ mean_of n (slid records.old at held n sample) }
     ensures records_after { records.new ≡ put records.old at (gather word (slid records.old at held n sample)) }
 {
-    let older = n as usize - 1;
-    let sum = slide(records, at, 2 * (held as usize - older), older);
+    let older = usize::from(n) - 1;
+    let sum = slide(records, at, 2 * (usize::from(held) - older), older);
     chars::put_word(records, at + 2 * older, sample);
-    (sum + signed(sample)) / (n as f32)
+    (sum + signed(sample)) / f32::from(n)
 }
 
 // For a mean that stands at a place.
@@ -82,13 +79,13 @@ fn take(
     let held = taken_of(unit, place);
     let k = held + 1;
     if k < n {
-        chars::put_word(records, at + 2 * (held as usize), sample);
+        chars::put_word(records, at + 2 * usize::from(held), sample);
         put_taken(unit, place, k);
         return Sampled::NotReady(n - k);
     }
     let x = mean(records, at, held, n, sample);
     put_taken(unit, place, n);
-    put_value(unit, number, f32::to_bits(x));
+    put_value(unit, number, x.to_bits());
     Sampled::Ready(x)
 }
 
@@ -103,14 +100,11 @@ pub fn sample<'a>(
         (owned_of unit.new block.now records.new) result }
     ensures numeric { Numeric result }
 {
-    chars::told_long(unit);
-    if layout::fits(unit, block.len(), records.len()) {
-        let place = place_of(unit, number);
-        if place < SpecialCalculation::MEANS {
-            let sampled = take(unit, records, place, number);
-            return Answer::Sampling(sampled);
-        }
-        return Answer::Ended(Outcome::NotValid);
+    if !layout::fits(unit, block.len(), records.len()) {
+        return Answer::Ended(Outcome::NotConfigured);
     }
-    Answer::Ended(Outcome::NotConfigured)
+    let Some(place) = place_of(unit, number) else {
+        return Answer::Ended(Outcome::NotValid);
+    };
+    Answer::Sampling(take(unit, records, place, number))
 }

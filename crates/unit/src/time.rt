@@ -9,22 +9,18 @@ ghost use Rattle.layout.specs.Kept.{owned_of};
 ghost use Rattle.serve.specs.Promises.{NumbersPromise};
 ghost use Rattle.unit.specs.Events.{EventPromise};
 
+use super::heed::heed;
 use layout::{UNIT, core_in, keep_core};
 use model::{Answer, Core, Outcome};
 
 fn core_after(core: Core, ms: u32) -> Core
     ensures { result ≡ core_after core ms }
 {
-    let clock = core.clock;
-    let hold = core.hold;
-    let write = core.write;
     Core {
-        clock: clock::clock_after(clock, ms),
-        hold: control::held_after(hold, ms),
-        write: blocks::waits_after(write, ms),
-        configure: core.configure,
-        error: core.error,
-        broadcast: core.broadcast,
+        clock: clock::clock_after(core.clock, ms),
+        hold: control::held_after(core.hold, ms),
+        write: blocks::waits_after(core.write, ms),
+        ..core
     }
 }
 
@@ -43,9 +39,8 @@ pub fn elapsed<'a>(unit: &mut [u8; UNIT], block: &'a [u8], records: &'a [u8], ms
         (owned_of unit.old block.now records.now)
         (owned_of unit.new block.now records.now) (Answer.Ended result) }
 {
-    if layout::fits(unit, block.len(), records.len()) {
+    heed(unit, block, records, |unit| {
         pass(unit, ms);
-        return Outcome::Done;
-    }
-    Outcome::NotConfigured
+        Outcome::Done
+    })
 }

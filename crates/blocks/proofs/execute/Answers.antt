@@ -1,39 +1,23 @@
--- `blocks::execute` meets its contract: the tests are those of the definition, in its order.
-use mathlib.Core.Path.{sym, ◌∙◌}
-use borrow.Author.Tests.{le-leb, lt-leb}
+-- `blocks::execute` meets its contract.
+use Rattle.std.proofs.Common.{arith}
+use Rattle.std.proofs.lemmas.Grind.{common_steps}
 use Rattle.model.specs.Config.{within}
-use Rattle.model.specs.Blocks.{execute_when, execute_of}
-use Rattle.blocks.proofs.AnswerLaws.{refused_as}
+use Rattle.model.specs.Blocks.{not_executed, execute_when, execute_of}
+use Rattle.layout.proofs.UnitLaws.{fixed-own}
 use Rattle.blocks.proofs.execute.Goals as goal
 
-pub returns-then-n-lt1 : goal.returns-then-n-lt1
-unfolding execute_of within
-returns-then-n-lt1 c = simp (lt-leb _ _ c.if-n-lt1.true) (refused_as _ _ _ _ c.not_executed.ensures)
+pub returns-then-not-contains : goal.returns-then-not-contains
+unfolding execute_of execute_when within not_executed
+returns-then-not-contains c = grind (arith, common_steps, fixed-own)
 
-pub returns-then-n-gt-MOST : goal.returns-then-n-gt-MOST
-unfolding execute_of within
-returns-then-n-gt-MOST c =
-    simp (le-leb _ _ c.if-n-lt1.false, lt-leb _ _ c.if-n-gt-MOST.true) (refused_as _ _ _ _ c.not_executed-then-n-gt-MOST.ensures)
+pub returns-in-None : goal.returns-in-None
+unfolding execute_of execute_when within not_executed
+returns-in-None c = grind (arith, common_steps, fixed-own)
 
-pub returns-then-is : goal.returns-then-is
-unfolding execute_of execute_when within
-returns-then-is c =
-    let some = le-leb _ _ c.if-n-lt1.false in
-    let few = le-leb _ _ c.if-n-gt-MOST.false in
-    let own = sym c.is.ensures ∙ c.if-is.true in
-    simp (some, few, c.in-Waits.is, sym c.master_of-master.ensures, own) c.store.ensures
+pub returns-in-Some : goal.returns-in-Some
+unfolding execute_of execute_when within not_executed
+returns-in-Some c = grind (arith, common_steps)
 
-pub returns-in-NoWrite : goal.returns-in-NoWrite
-unfolding execute_of execute_when within
-returns-in-NoWrite c =
-    let some = le-leb _ _ c.if-n-lt1.false in
-    let few = le-leb _ _ c.if-n-gt-MOST.false in
-    simp (some, few, c.in-NoWrite.is) (refused_as _ _ _ _ c.not_executed-in-NoWrite.ensures)
-
-pub returns-else-is : goal.returns-else-is
-unfolding execute_of execute_when within
-returns-else-is c =
-    let some = le-leb _ _ c.if-n-lt1.false in
-    let few = le-leb _ _ c.if-n-gt-MOST.false in
-    let other = sym c.is.ensures ∙ c.if-is.false in
-    simp (some, few, c.in-Waits.is, sym c.master_of-master.ensures, other) (refused_as _ _ _ _ c.not_executed-in-Waits.ensures)
+pub returns-in-Some-2 : goal.returns-in-Some-2
+unfolding execute_of execute_when within not_executed
+returns-in-Some-2 c = grind (arith, common_steps, fixed-own)

@@ -1,25 +1,29 @@
 -- `blocks::read` meets its contract: the tests are those of the definition, in its order.
-use mathlib.Core.Path.{sym, ◌∙◌}
-use borrow.Author.Tests.{eq-eqb, ne_eqb}
+use mathlib.Core.Path.{◌≡◌, refl, sym, ◌∙◌}
+use Rattle.std.proofs.Common.{arith}
+use Rattle.std.proofs.lemmas.Grind.{common_steps}
+use lib.ListN.{length}
+use borrow.Author.Tests.{eq-eqb}
+use Rattle.chars.specs.Word.{word_at}
 use Rattle.model.specs.Scan.{counts}
 use Rattle.model.specs.Blocks.{read_of}
 use Rattle.blocks.proofs.AnswerLaws.{found_as}
 use Rattle.blocks.proofs.read.Goals as goal
 
-pub returns-then-body-ne4 : goal.returns-then-body-ne4
+pub returns-in_default : goal.returns-in_default
 unfolding read_of counts
-returns-then-body-ne4 c = simp (ne_eqb _ _ c.if-body-ne4.true) c.returned.ensures
+returns-in_default c = grind (arith, common_steps)
 
-pub returns-then-reaches : goal.returns-then-reaches
-returns-then-reaches c =
-    let in_block = sym c.reaches.ensures ∙ c.if-reaches.true in
-    rw (← c.fixed_of-fixed.ensures)
-    (found_as _ _ _ _ _ _ _ _ c.if-body-ne4.false c.word_at-bias.ensures in_block
-    c.find-found.ensures c.wide-n.ensures.0 c.copy.ensures)
+pub returns-then-not-reaches : goal.returns-then-not-reaches
+unfolding read_of counts
+returns-then-not-reaches c =
+    let bias : c.from_le_bytes-bias.result ≡ word_at c.args.body.now 0 = unfold word_at in omega (arith, c.from_le_bytes-bias.ensures) in
+    let out = sym c.reaches.ensures ∙ c.if-not-reaches.true in
+    rw (← c.fixed_of-fixed.ensures) (simp (eq-eqb (length c.args.body.now) 4 (omega arith), sym bias, out) c.returned-then-not-reaches.ensures)
 
 pub returns : goal.returns
-unfolding read_of counts
 returns c =
-    let out = sym c.reaches.ensures ∙ c.if-reaches.false in
-    rw (← c.fixed_of-fixed.ensures)
-    (simp (eq-eqb _ _ c.if-body-ne4.false, sym c.word_at-bias.ensures, out) c.returned-2.ensures)
+    let bias : c.from_le_bytes-bias.result ≡ word_at c.args.body.now 0 = unfold word_at in omega (arith, c.from_le_bytes-bias.ensures) in
+    let in_block = sym c.reaches.ensures ∙ c.if-not-reaches.false in
+    rw (← c.fixed_of-fixed.ensures, c.from-2.ensures)
+    (found_as _ _ _ _ _ _ _ _ (omega arith) bias in_block c.find-found.ensures refl (rw c.from.ensures at c.copy.ensures))

@@ -1,29 +1,23 @@
--- `blocks::write` meets its contract: the tests are those of the definition, in its order.
-use mathlib.Core.Path.{refl, sym, ◌∙◌}
-use borrow.Author.Tests.{eq-eqb, ne_eqb}
+-- `blocks::write` meets its contract.
+use Rattle.std.proofs.Common.{arith}
+use Rattle.std.proofs.lemmas.Grind.{common_steps}
+use Rattle.chars.specs.Word.{word_at}
 use Rattle.model.specs.Scan.{counts}
-use Rattle.model.specs.Blocks.{write_when, write_of}
+use Rattle.model.specs.Blocks.{waits_for, write_when, write_of}
 use Rattle.blocks.proofs.write.Goals as goal
 
-pub returns-then-body-ne3 : goal.returns-then-body-ne3
-unfolding write_of counts
-returns-then-body-ne3 c = simp (ne_eqb _ _ c.if-body-ne3.true) (record { ended = refl; waiting = refl })
+pub returns-in_default : goal.returns-in_default
+unfolding write_of write_when waits_for counts word_at
+returns-in_default c = grind (arith, common_steps)
 
-pub returns-then-is : goal.returns-then-is
-unfolding write_of write_when counts
-returns-then-is c =
-    let three = eq-eqb _ _ c.if-body-ne3.false in
-    let own = sym c.is.ensures ∙ c.if-is.true in
-    simp (three, c.in-Waits.is, sym c.master_of-master.ensures, own) c.taken-then-is.ensures
+pub returns-in_default-2 : goal.returns-in_default-2
+unfolding write_of write_when waits_for counts word_at
+returns-in_default-2 c = grind (arith, common_steps)
 
-pub returns-in-NoWrite : goal.returns-in-NoWrite
-unfolding write_of write_when counts
-returns-in-NoWrite c =
-    simp (eq-eqb _ _ c.if-body-ne3.false, c.in-NoWrite.is, sym c.master_of-master.ensures) c.taken.ensures
+pub returns-in-Some : goal.returns-in-Some
+unfolding write_of write_when waits_for counts word_at
+returns-in-Some c = grind (arith, common_steps)
 
-pub returns-else-is : goal.returns-else-is
-unfolding write_of write_when counts
-returns-else-is c =
-    let three = eq-eqb _ _ c.if-body-ne3.false in
-    let other = sym c.is.ensures ∙ c.if-is.false in
-    simp (three, c.in-Waits.is, sym c.master_of-master.ensures, other) (record { ended = refl; waiting = refl })
+pub returns-in_default-pending : goal.returns-in_default-pending
+unfolding write_of write_when waits_for counts word_at
+returns-in_default-pending c = grind (arith, common_steps)

@@ -2,4 +2,4 @@
 use Rattle.board.proofs.osturdam_contact.Goals as goal
 
 pub returns : goal.returns
-returns c = record { answer = _; tells = c.contact-outcome.ensures; said = c.number.ensures }
+returns c = record { answer = _; tells = c.contact.ensures; said = c.from.ensures }

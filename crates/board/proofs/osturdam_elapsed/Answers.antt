@@ -2,4 +2,4 @@
 use Rattle.board.proofs.osturdam_elapsed.Goals as goal
 
 pub returns : goal.returns
-returns c = record { answer = _; tells = c.elapsed-outcome.ensures; said = c.number.ensures }
+returns c = record { answer = _; tells = c.elapsed.ensures; said = c.from.ensures }

@@ -2,4 +2,4 @@
 use Rattle.board.proofs.osturdam_pulses.Goals as goal
 
 pub returns : goal.returns
-returns c = record { answer = _; tells = c.pulses-outcome.ensures; said = c.number.ensures }
+returns c = record { answer = _; tells = c.pulses.ensures; said = c.from.ensures }

@@ -8,5 +8,5 @@ returns c =
       answer = c.sample-answer.result;
       tells = c.sample-answer.ensures.event_promise;
       said = c.answer_number.ensures;
-      told = sampled-told c.sample-answer.result c.missing_number-missing.ensures c.bits_number-bits.ensures;
+      told = rw (c.to_le_bytes.ensures, c.to_le_bytes-2.ensures) (sampled-told c.sample-answer.result c.missing_number.ensures c.bits_number.ensures c.missing_number.type_inv c.bits_number.type_inv);
     }

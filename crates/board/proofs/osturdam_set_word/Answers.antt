@@ -2,4 +2,4 @@
 use Rattle.board.proofs.osturdam_set_word.Goals as goal
 
 pub returns : goal.returns
-returns c = record { answer = _; tells = c.set_word-outcome.ensures; said = c.number.ensures }
+returns c = record { answer = _; tells = c.set_word.ensures; said = c.from.ensures }

@@ -7,6 +7,6 @@ returns c =
     record {
       turn = c.stretch-turn.result;
       serves = c.stretch-turn.ensures;
-      number = c.number.ensures;
-      told = turned_told c.stretch-turn.result c.action_number.ensures c.output_number.ensures;
+      number = c.from.ensures;
+      told = rw c.to_le_bytes.ensures (turned_told c.stretch-turn.result c.action_numbers-action.ensures.0 c.action_numbers-action.ensures.1);
     }

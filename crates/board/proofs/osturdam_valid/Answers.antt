@@ -1,12 +1,9 @@
 -- `board::osturdam_valid` meets its contract. Assumes nothing.
-use mathlib.Core.Path.{refl, sym, ◌∙◌}
-use Rattle.board.proofs.ValidLaws.{told-valid, told-invalid}
+use mathlib.Core.Path.{◌∙◌}
+use Rattle.std.proofs.Common.{rules}
+use Rattle.board.proofs.ValidLaws.{fresh-taken}
 use Rattle.board.proofs.osturdam_valid.Goals as goal
-
-pub returns-then-fits : goal.returns-then-fits
-returns-then-fits c =
-    told-valid _ c.fresh.ensures c.length_of-long.ensures c.room_of-room.ensures refl (sym c.fits.ensures ∙ c.if-fits.true)
 
 pub returns : goal.returns
 returns c =
-    told-invalid _ c.fresh.ensures c.length_of-long.ensures c.room_of-room.ensures refl (sym c.fits.ensures ∙ c.if-fits.false)
+    rw (c.from.ensures, c.fits.ensures, fresh-taken _ c.fresh.ensures (c.from-long.ensures ∙ c.length_of.ensures) c.room_of-room.ensures) (search rules)

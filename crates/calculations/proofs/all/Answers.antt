@@ -1,5 +1,5 @@
 -- `calculations::all` meets its contract. Assumes nothing.
-use mathlib.Core.Path.{refl}
+use Rattle.std.proofs.Common.{refl}
 use Rattle.model.specs.declared.Outcome.TheVariants.{Done, TooLong}
 use Rattle.points.proofs.AnswerLaws.{fills_refused, fills_gathered}
 use Rattle.calculations.proofs.CalculationLaws.{all-long, all_done}
@@ -11,4 +11,4 @@ returns-then-count-gt127 c =
 
 pub returns : goal.returns
 returns c =
-    fills_gathered Done c.write-end.ensures.gathered (all_done _ _ _ (c.count.ensures _) c.if-count-gt127.false) refl
+    fills_gathered Done c.write-end.ensures.gathered (all_done _ _ _ (c.count.ensures _) c.if-count-gt127.false) c.filled.ensures

@@ -1,33 +1,45 @@
 -- `calculations::scan_by` meets its contract. Assumes nothing.
-use mathlib.Core.Path.{refl, ◌∙◌}
-use Rattle.model.specs.declared.Outcome.TheVariants.{Unknown, WrongCount, BufferShort}
-use Rattle.points.proofs.AnswerLaws.{in_room_lem, no_room, no_data_lem, some_data, fills_refused, fills_as}
-use Rattle.calculations.proofs.CalculationLaws.{calculations-all, calculations_unknown, calculations-none, calculations-many, calculations_those}
+use mathlib.Core.Path.{ap, ◌∙◌}
+use Rattle.std.proofs.Common.{arith}
+use Rattle.std.proofs.lemmas.Grind.{common_steps}
+use Rattle.std.specs.Prelude.{Ok}
+use Rattle.chars.proofs.PutLaws.{put-none}
+use Rattle.model.specs.Command.{calculations_code}
+use Rattle.model.specs.Config.{within}
+use Rattle.model.specs.Scan.{counts, with_no_data}
+use Rattle.model.specs.Calculations.{calculations_of}
+use Rattle.model.specs.declared.command.CalculationsCommand.{CalculationsCommand}
+use Rattle.frames.proofs.Named.{named, unnamed}
 use Rattle.calculations.proofs.scan_by.Goals as goal
 
-pub returns-then-reply-lt-LONGEST : goal.returns-then-reply-lt-LONGEST
-returns-then-reply-lt-LONGEST c = fills_refused BufferShort (no_room _ _ c.if-reply-lt-LONGEST.true) c.refused.ensures refl
+pub returns-then-not-is_empty : goal.returns-then-not-is_empty
+unfolding calculations_of with_no_data counts
+returns-then-not-is_empty c =
+    let code = named calculations_code c.args.frame.command (c.in-Ok-All.is ∙ ap Ok c.in-Ok-All.field-0-is) c.try_from.ensures in
+    grind (arith, common_steps, put-none)
 
-pub returns-then-n-ne0 : goal.returns-then-n-ne0
-returns-then-n-ne0 c =
-    fills_refused WrongCount (in_room_lem _ _ c.if-reply-lt-LONGEST.false ∙ calculations-all _ _ _ c.if-command.true ∙ some_data _ _ c.if-n-ne0.true) c.refused-then-n-ne0.ensures refl
+pub returns-then-not-contains : goal.returns-then-not-contains
+unfolding calculations_of within
+returns-then-not-contains c =
+    let code = named calculations_code c.args.frame.command (c.in-Ok-Asked.is ∙ ap Ok c.in-Ok-Asked.field-0-is) c.try_from.ensures in
+    grind (arith, common_steps, put-none)
 
-pub returns-then-command : goal.returns-then-command
-returns-then-command c =
-    fills_as (in_room_lem _ _ c.if-reply-lt-LONGEST.false ∙ calculations-all _ _ _ c.if-command.true ∙ no_data_lem _ _ c.if-n-ne0.false) c.all.ensures
+pub returns-else-not-is_empty : goal.returns-else-not-is_empty
+unfolding calculations_of with_no_data counts
+returns-else-not-is_empty c =
+    let code = named calculations_code c.args.frame.command (c.in-Ok-All.is ∙ ap Ok c.in-Ok-All.field-0-is) c.try_from.ensures in
+    grind (arith, common_steps)
 
-pub returns-then-command-ne0 : goal.returns-then-command-ne0
-returns-then-command-ne0 c =
-    fills_refused Unknown (in_room_lem _ _ c.if-reply-lt-LONGEST.false ∙ calculations_unknown _ _ _ c.if-command.false c.if-command-ne0.true) c.refused-then-command-ne0.ensures refl
+pub returns-else-not-contains : goal.returns-else-not-contains
+unfolding calculations_of within
+returns-else-not-contains c =
+    let code = named calculations_code c.args.frame.command (c.in-Ok-Asked.is ∙ ap Ok c.in-Ok-Asked.field-0-is) c.try_from.ensures in
+    grind (arith, common_steps)
 
-pub returns-then-n-eq0 : goal.returns-then-n-eq0
-returns-then-n-eq0 c =
-    fills_refused WrongCount (in_room_lem _ _ c.if-reply-lt-LONGEST.false ∙ calculations-none _ _ _ c.if-command.false c.if-command-ne0.false c.if-n-eq0.true) c.refused-then-n-eq0.ensures refl
-
-pub returns-then-n : goal.returns-then-n
-returns-then-n c =
-    fills_refused WrongCount (in_room_lem _ _ c.if-reply-lt-LONGEST.false ∙ calculations-many _ _ _ c.if-command.false c.if-command-ne0.false c.if-n.true) c.refused-then-n.ensures refl
-
-pub returns : goal.returns
-returns c =
-    fills_as (in_room_lem _ _ c.if-reply-lt-LONGEST.false ∙ calculations_those _ _ _ c.if-command.false c.if-command-ne0.false c.if-n-eq0.false c.if-n.false) c.those.ensures
+pub returns-in-Err : goal.returns-in-Err
+unfolding calculations_of
+returns-in-Err c =
+    let none = unnamed calculations_code c.args.frame.command c.in-Err.is c.try_from.ensures in
+    let a = none CalculationsCommand.All in
+    let b = none CalculationsCommand.Asked in
+    grind (arith, common_steps, put-none)

@@ -1,19 +1,16 @@
--- `chars::put_value` meets its contract: four stores side by side are one run. Assumes nothing.
+-- `chars::put_value` meets its contract: a value's characters are those that std gives.
+use mathlib.Core.Path.{◌≡◌, ap, ◌∙◌}
+use mathlib.Core.List.{[], ◌∷◌}
+use Prim.Native.Nat.{◌/◌, ◌%◌}
 use native.Mathlib.Omega.{arith}
-use lib.ListN.{length-set}
+use Rattle.chars.specs.Put.{put}
 use Rattle.chars.specs.Word.{value}
-use Rattle.chars.proofs.WordLaws.{put_four}
 use Rattle.chars.proofs.put_value.Goals as goal
-
-pub bounds-b-at-2 : goal.bounds-b-at-2
-bounds-b-at-2 c = simp length-set (omega arith)
-
-pub bounds-b-at-3 : goal.bounds-b-at-3
-bounds-b-at-3 c = simp length-set (omega arith)
-
-pub bounds-b-at-4 : goal.bounds-b-at-4
-bounds-b-at-4 c = simp length-set (omega arith)
 
 pub returns : goal.returns
 unfolding value
-returns c = put_four _ _ _ _ _ _
+returns c =
+    let a = c.args in
+    let high : a.v / 16777216 % 256 ≡ a.v / 16777216 = omega arith in
+    c.put_bytes.ensures
+    ∙ ap (put a.b.now a.at) (c.to_le_bytes.ensures ∙ ap (λ x. a.v % 256 ∷ a.v / 256 % 256 ∷ a.v / 65536 % 256 ∷ x ∷ []) high)

@@ -1,12 +1,13 @@
--- `clock::decimal` meets its contract: the high half is judged, then the low.
+-- `clock::decimal` meets its contract.
+use Rattle.std.proofs.Common.{arith}
+use Rattle.std.proofs.lemmas.Grind.{common_steps}
 use Rattle.model.specs.Clock.{digits}
-use borrow.Author.Tests.{le-leb, lt-leb}
 use Rattle.clock.proofs.decimal.Goals as goal
 
-pub returns-then-b-gt9 : goal.returns-then-b-gt9
+pub returns-then-b-le9 : goal.returns-then-b-le9
 unfolding digits
-returns-then-b-gt9 c = simp (lt-leb _ _ c.if-b-gt9.true)
+returns-then-b-le9 c = grind (arith, common_steps)
 
-pub returns : goal.returns
+pub returns-else-b-le9 : goal.returns-else-b-le9
 unfolding digits
-returns c = simp (le-leb _ _ c.if-b-gt9.false)
+returns-else-b-le9 c = grind (arith, common_steps)

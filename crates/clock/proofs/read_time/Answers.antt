@@ -1,26 +1,20 @@
 -- `clock::read_time` meets its contract: the clock is judged, then the count.
-use Rattle.clock.proofs.CodeLaws.{read_out, read_count, read_done, fills_quiet, fills_time}
-use mathlib.Core.Path.{sym, ◌∙◌}
+use Rattle.std.proofs.Common.{arith, rules}
+use Rattle.std.proofs.lemmas.Grind.{common_steps}
+use Rattle.model.specs.Scan.{counts, with_no_data}
+use Rattle.model.specs.Clock.{read_time_of, time_chars}
+use Rattle.clock.specs.Times.{time_read_of}
+use Rattle.chars.proofs.PutLaws.{put-none}
 use Rattle.clock.proofs.read_time.Goals as goal
 
-pub returns-then-body-ne0 : goal.returns-then-body-ne0
-returns-then-body-ne0 c = fills_quiet (read_count _ _ _ c.clock_fits.ensures c.if-clock_fits.true c.if-body-ne0.true)
+pub returns-then-not-clock_fits : goal.returns-then-not-clock_fits
+unfolding time_read_of
+returns-then-not-clock_fits c = search (rules, put-none)
 
-pub write_time-requires : goal.write_time-requires
-write_time-requires c = sym c.clock_fits.ensures ∙ c.if-clock_fits.true
-
-pub returns-then-clock_fits : goal.returns-then-clock_fits
-returns-then-clock_fits c =
-    fills_time
-    _
-    (read_done
-    _
-    _
-    _
-    c.clock_fits.ensures
-    c.if-clock_fits.true
-    c.if-body-ne0.false)
-    c.write_time.ensures
+pub returns-then-not-is_empty : goal.returns-then-not-is_empty
+unfolding time_read_of read_time_of with_no_data counts
+returns-then-not-is_empty c = grind (arith, common_steps, put-none)
 
 pub returns : goal.returns
-returns c = fills_quiet (read_out _ _ _ c.clock_fits.ensures c.if-clock_fits.false)
+unfolding time_read_of read_time_of with_no_data counts time_chars
+returns c = grind (arith, common_steps)

@@ -1,21 +1,14 @@
 -- `clock::write_time` meets its contract: the seven characters are made, and go over the reply in one run.
+use Rattle.std.proofs.Common.{arith}
+use Rattle.std.proofs.lemmas.Grind.{common_steps}
+use Rattle.chars.proofs.PutLaws.{part-whole}
+use Rattle.model.specs.Clock.{time_chars}
 use Rattle.model.proofs.Times.{ranges}
-use Rattle.clock.proofs.CodeLaws.{time-written}
-use native.Mathlib.Omega.{arith}
 use Rattle.clock.proofs.write_time.Goals as goal
 
 pub overflow_cast-cs : goal.overflow_cast-cs
 overflow_cast-cs c = omega (arith, (ranges _ c.requires).day)
 
 pub returns : goal.returns
-returns c =
-    time-written
-    _
-    c.requires
-    _
-    _
-    c.to_bcd.ensures
-    c.to_bcd-2.ensures
-    c.to_bcd-3.ensures
-    c.to_bcd-4.ensures
-    c.copy.ensures
+unfolding time_chars
+returns c = let n = ranges _ c.requires in grind (arith, common_steps, part-whole)

@@ -1,40 +1,17 @@
 -- `control::breaks_off` meets its contract: only the select's own master breaks it off, and not by an operate.
-use Rattle.control.proofs.RunLaws.{breaks-own, breaks-other}
+use Rattle.std.proofs.Common.{arith}
+use Rattle.std.proofs.lemmas.Grind.{common_steps}
 use Rattle.model.specs.Control.{breaks}
 use Rattle.control.proofs.breaks_off.Goals as goal
 
-pub returns-then-is : goal.returns-then-is
-returns-then-is c =
-    breaks-own
-    _
-    _
-    _
-    _
-    _
-    c.in-Held.is
-    c.master_of.ensures
-    c.is.ensures
-    c.if-is.true
-    _
-    c.operates_with.ensures
-
 pub returns-in-Free : goal.returns-in-Free
 unfolding breaks
-returns-in-Free c = simp c.in-Free.is
+returns-in-Free c = grind (arith, common_steps)
 
-pub returns-in-TimedOut : goal.returns-in-TimedOut
+pub returns-then-eq : goal.returns-then-eq
 unfolding breaks
-returns-in-TimedOut c = simp c.in-TimedOut.is
+returns-then-eq c = grind (arith, common_steps)
 
-pub returns-else-is : goal.returns-else-is
-returns-else-is c =
-    breaks-other
-    _
-    _
-    _
-    _
-    _
-    c.in-Held.is
-    c.master_of.ensures
-    c.is.ensures
-    c.if-is.false
+pub returns-else-eq : goal.returns-else-eq
+unfolding breaks
+returns-else-eq c = grind (arith, common_steps)

@@ -1,25 +1,17 @@
--- `control::held_after` meets its contract, an arm for each case of the definition.
-use mathlib.Core.Path.{sym, ◌∙◌}
-use Rattle.model.specs.Control.{held_after}
-use Rattle.model.proofs.Ages.{aged_lives, aged_over}
+-- `control::held_after` meets its contract.
+use Rattle.std.proofs.Common.{arith}
+use Rattle.std.proofs.lemmas.Grind.{common_steps}
+use Rattle.model.specs.Control.{held_after, aged_of}
 use Rattle.control.proofs.held_after.Goals as goal
 
 pub returns-in-Free : goal.returns-in-Free
 unfolding held_after
-returns-in-Free c = simp c.in-Free.is
+returns-in-Free c = grind (arith, common_steps)
 
-pub returns-in-TimedOut : goal.returns-in-TimedOut
-unfolding held_after
-returns-in-TimedOut c = simp c.in-TimedOut.is
+pub returns-in-Some : goal.returns-in-Some
+unfolding held_after aged_of
+returns-in-Some c = grind (arith, common_steps)
 
-pub returns-in-Lives : goal.returns-in-Lives
-unfolding held_after
-returns-in-Lives c =
-    let l = aged_lives _ _ _ (sym c.aged.ensures ∙ c.in-Lives.is) in
-    simp (c.in-Held.is, l.0, l.1)
-
-pub returns-in-Over : goal.returns-in-Over
-unfolding held_after
-returns-in-Over c =
-    let o = aged_over _ _ (sym c.aged.ensures ∙ c.in-Over.is) in
-    simp (c.in-Held.is, o)
+pub returns-in-None : goal.returns-in-None
+unfolding held_after aged_of
+returns-in-None c = grind (arith, common_steps)

@@ -1,16 +1,13 @@
--- `control::reset` meets its contract, an arm for each case of the definition.
+-- `control::reset` meets its contract.
+use Rattle.std.proofs.Common.{arith}
+use Rattle.std.proofs.lemmas.Grind.{common_steps}
 use Rattle.model.specs.Control.{reset_when}
-use mathlib.Core.Path.{◌∙◌}
 use Rattle.control.proofs.reset.Goals as goal
 
 pub returns-in-Free : goal.returns-in-Free
 unfolding reset_when
-returns-in-Free c = c.kept.ensures ∙ simp c.in-Free.is
-
-pub returns-in-TimedOut : goal.returns-in-TimedOut
-unfolding reset_when
-returns-in-TimedOut c = c.kept-in-TimedOut.ensures ∙ simp c.in-TimedOut.is
+returns-in-Free c = grind (arith, common_steps)
 
 pub returns-in-Held : goal.returns-in-Held
 unfolding reset_when
-returns-in-Held c = c.kept-in-Held.ensures ∙ simp c.in-Held.is
+returns-in-Held c = grind (arith, common_steps)

@@ -1,10 +1,9 @@
 -- `control::take` meets its contract: one character is written, and the select begins.
+use Rattle.std.proofs.Common.{arith}
+use Rattle.std.proofs.lemmas.Grind.{common_steps}
 use Rattle.model.specs.Control.{takes}
-use Rattle.model.specs.declared.Hold.TheVariants.{Held}
-use mathlib.Core.Path.{refl, ap}
 use Rattle.control.proofs.take.Goals as goal
 
 pub returns : goal.returns
 unfolding takes
-returns c =
-    record { ended = refl; acted = refl; held = ap Held c.new.ensures; counted = refl; written = c.put_char.ensures }
+returns c = grind (arith, common_steps)

@@ -14,10 +14,12 @@ pub returns-then-head-lt2 : goal.returns-then-head-lt2
 returns-then-head-lt2 c =
     let s = c.args in
     let h : 7 + s.head.count + 2 ≤ length s.buffer.now = omega arith in
-    (sym (framed-long _ _ h), framed-number _ _ h _ c.put_head.ensures _ _ _ c.if-head-lt2.true c.reply_number-number.ensures c.check_number.ensures c.put_word.ensures)
+    rw c.from-end.ensures
+    (sym (framed-long _ _ h), framed-number _ _ h _ c.put_head.ensures _ _ _ c.if-head-lt2.true c.reply_number-number.ensures c.check_number.ensures (rw c.from-end.ensures at c.put_word.ensures))
 
 pub returns : goal.returns
 returns c =
     let s = c.args in
     let h : 7 + s.head.count + 2 ≤ length s.buffer.now = omega arith in
-    (sym (framed-long _ _ h), framed-put _ _ h _ c.put_head.ensures _ c.put_check.ensures)
+    rw c.from-end.ensures
+    (sym (framed-long _ _ h), framed-put _ _ h _ c.put_head.ensures _ (rw c.from-end.ensures at c.put_check.ensures))

@@ -1,12 +1,13 @@
--- `lines::hex_digit` meets its contract: its branches are the definition's.
-use borrow.Author.Tests.{lt-ltb, le-ltb}
+-- `lines::hex_digit` meets its contract: its arms are the definition's branches.
+use Rattle.std.proofs.Common.{arith}
+use Rattle.std.proofs.lemmas.Grind.{common_steps}
 use Rattle.lines.specs.Line.{hex_digit}
 use Rattle.lines.proofs.hex_digit.Goals as goal
 
-pub returns-then-v-lt10 : goal.returns-then-v-lt10
+pub returns-in-0-to-9 : goal.returns-in-0-to-9
 unfolding hex_digit
-returns-then-v-lt10 c = rw (lt-ltb _ _ c.if-v-lt10.true)
+returns-in-0-to-9 c = grind (arith, common_steps)
 
-pub returns : goal.returns
+pub returns-in_default : goal.returns-in_default
 unfolding hex_digit
-returns c = rw (le-ltb _ _ c.if-v-lt10.false)
+returns-in_default c = grind (arith, common_steps)

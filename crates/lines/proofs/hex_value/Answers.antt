@@ -1,25 +1,25 @@
--- `lines::hex_value` meets its contract: its branches are the definition's.
-use borrow.Author.Tests.{lt-ltb, le-ltb}
-use Rattle.lines.specs.Line.{hex_val}
-use borrow.Author.Rules.{rules}
+-- `lines::hex_value` meets its contract: its arms are the definition's branches.
+use Rattle.std.proofs.Common.{arith}
+use Rattle.std.proofs.lemmas.Grind.{common_steps}
+use Rattle.lines.specs.Line.{hex_val, is_hex}
 use Rattle.lines.proofs.hex_value.Goals as goal
 
-pub returns-then-b-lt48 : goal.returns-then-b-lt48
-unfolding hex_val
-returns-then-b-lt48 c = (simp (lt-ltb _ _ c.if-b-lt48.true), search rules)
+pub returns-in-48-to-57 : goal.returns-in-48-to-57
+unfolding hex_val is_hex
+returns-in-48-to-57 c = grind (arith, common_steps)
 
-pub returns-then-b-lt58 : goal.returns-then-b-lt58
-unfolding hex_val
-returns-then-b-lt58 c = (simp (le-ltb _ _ c.if-b-lt48.false, lt-ltb _ _ c.if-b-lt58.true), search rules)
+pub returns-in-65-to-70 : goal.returns-in-65-to-70
+unfolding hex_val is_hex
+returns-in-65-to-70 c = grind (arith, common_steps)
 
-pub returns-then-b-lt65 : goal.returns-then-b-lt65
-unfolding hex_val
-returns-then-b-lt65 c = (simp (le-ltb _ _ c.if-b-lt48.false, le-ltb _ _ c.if-b-lt58.false, lt-ltb _ _ c.if-b-lt65.true), search rules)
+pub returns-in_default : goal.returns-in_default
+unfolding hex_val is_hex
+returns-in_default c = grind (arith, common_steps)
 
-pub returns-then-b-lt71 : goal.returns-then-b-lt71
-unfolding hex_val
-returns-then-b-lt71 c = (simp (le-ltb _ _ c.if-b-lt48.false, le-ltb _ _ c.if-b-lt58.false, le-ltb _ _ c.if-b-lt65.false, lt-ltb _ _ c.if-b-lt71.true), search rules)
+pub returns-in_default-2 : goal.returns-in_default-2
+unfolding hex_val is_hex
+returns-in_default-2 c = grind (arith, common_steps)
 
-pub returns : goal.returns
-unfolding hex_val
-returns c = (simp (le-ltb _ _ c.if-b-lt48.false, le-ltb _ _ c.if-b-lt58.false, le-ltb _ _ c.if-b-lt65.false, le-ltb _ _ c.if-b-lt71.false), search rules)
+pub returns-in_default-3 : goal.returns-in_default-3
+unfolding hex_val is_hex
+returns-in_default-3 c = grind (arith, common_steps)

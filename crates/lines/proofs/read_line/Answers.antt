@@ -1,34 +1,30 @@
--- `lines::read_line` meets its contract: each of its answers is a case of the definition.
-use Rattle.lines.proofs.ReadLaws.{read_as, read-quiet, read-other, line-long, line-short, line_no_tab, line-stretch, line-time, line_unknown, time-quiet}
+-- `lines::read_line` meets its contract: each of its arms is a case of the definition.
+use native.Mathlib.Omega.{arith}
+use Rattle.lines.specs.declared.Line.{Line}
+use Rattle.lines.proofs.ReadLaws.{answered, read_as, read-quiet, read-other, line-long, line-short, line-other, line-stretch, line-time, time-quiet}
 use Rattle.lines.proofs.read_line.Goals as goal
 
 pub returns-then-line-gt2000 : goal.returns-then-line-gt2000
 returns-then-line-gt2000 c = read-other _ _ (line-long _ c.if-line-gt2000.true)
 
-pub returns-then-line-lt2 : goal.returns-then-line-lt2
-returns-then-line-lt2 c = read-other _ _ (line-short _ c.if-line-lt2.true)
+pub returns-in-82 : goal.returns-in-82
+returns-in-82 c =
+    let says = line-stretch c.args.line.now (omega arith) (omega arith) (omega arith) (omega arith) in
+    read_as _ _ _ _ _ says (answered Line.Stretch _ _ _ c.map_or.ensures c.read_stretch.ensures.answer, c.read_stretch.ensures.heard)
 
-pub returns-then-tab-ne9 : goal.returns-then-tab-ne9
-returns-then-tab-ne9 c =
-    let most = c.if-line-gt2000.false in
-    let least = c.if-line-lt2.false in
-    read-other _ _ (line_no_tab _ most least c.if-tab-ne9.true)
+pub returns-in-84 : goal.returns-in-84
+returns-in-84 c =
+    let says = line-time c.args.line.now (omega arith) (omega arith) (omega arith) (omega arith) (omega arith) in
+    read-quiet _ _ _ _ says (time-quiet _) (answered Line.Time _ _ _ c.map_or-in-84.ensures c.read_time.ensures)
 
-pub returns-then-kind-eq82 : goal.returns-then-kind-eq82
-returns-then-kind-eq82 c =
-    let most = c.if-line-gt2000.false in
-    let least = c.if-line-lt2.false in
-    read_as _ _ _ _ _ (line-stretch _ most least c.if-tab-ne9.false c.if-kind-eq82.true) c.read_stretch.ensures
+pub returns-in_default : goal.returns-in_default
+returns-in_default c = read-other _ _ (line-short _ (omega arith))
 
-pub returns-then-kind-eq84 : goal.returns-then-kind-eq84
-returns-then-kind-eq84 c =
-    let most = c.if-line-gt2000.false in
-    let least = c.if-line-lt2.false in
-    let says = line-time _ most least c.if-tab-ne9.false c.if-kind-eq82.false c.if-kind-eq84.true in
-    read-quiet _ _ _ _ says (time-quiet _) c.read_time.ensures
+pub returns-in_default-2 : goal.returns-in_default-2
+returns-in_default-2 c = read-other _ _ (line-other _ (omega arith) (omega arith) (λ t k. omega arith) (λ t k. omega arith))
 
-pub returns : goal.returns
-returns c =
-    let most = c.if-line-gt2000.false in
-    let least = c.if-line-lt2.false in
-    read-other _ _ (line_unknown _ most least c.if-tab-ne9.false c.if-kind-eq82.false c.if-kind-eq84.false)
+pub returns-in_default-3 : goal.returns-in_default-3
+returns-in_default-3 c = read-other _ _ (line-other _ (omega arith) (omega arith) (λ t k. omega arith) (λ t k. omega arith))
+
+pub returns-in_default-4 : goal.returns-in_default-4
+returns-in_default-4 c = read-other _ _ (line-other _ (omega arith) (omega arith) (λ t k. omega arith) (λ t k. omega arith))

@@ -1,11 +1,8 @@
 use mathlib.Core.Path.{◌≡◌}
-use Prim.Native.Nat.{◌≤◌, ◌-◌}
-use lib.ListN.{length, drop}
+use Prim.Native.Nat.{◌≤◌}
+use lib.ListN.{drop}
 use Rattle.lines.specs.Line.{time_from, time_said}
 use Rattle.lines.proofs.read_time.Given as goal
 
-abbrev pub invariant-loop-i : goal.invariant-loop-i
-invariant-loop-i l = (time_from l.v (drop l.i l.ds) ≡ time_said l.ds) × (l.i ≤ length l.ds) × (l.v ≤ 4294967295)
-
-abbrev pub decreases-loop-i : goal.decreases-loop-i
-decreases-loop-i l = length l.ds - l.i
+abbrev pub invariant-loop-digit : goal.invariant-loop-digit
+invariant-loop-digit l = (time_from l.time (drop l.digit-index l.digits) ≡ time_said l.digits) × (l.time ≤ 4294967295)

@@ -1,16 +1,17 @@
 -- `port::mark_after` meets its contract. Assumes nothing.
-use mathlib.Core.Path.{sym, ◌∙◌}
+use Rattle.std.proofs.Common.{arith}
+use Rattle.std.proofs.lemmas.Grind.{common_steps}
 use Rattle.model.specs.Port.{mark_after}
 use Rattle.port.proofs.mark_after.Goals as goal
 
 pub returns-then-is_answered : goal.returns-then-is_answered
 unfolding mark_after
-returns-then-is_answered c = rw (sym c.is_answered.ensures ∙ c.if-is_answered.true)
+returns-then-is_answered c = grind (arith, common_steps)
 
 pub returns-then-is_damaged : goal.returns-then-is_damaged
 unfolding mark_after
-returns-then-is_damaged c = rw (sym c.is_answered.ensures ∙ c.if-is_answered.false, sym c.is_damaged.ensures ∙ c.if-is_damaged.true)
+returns-then-is_damaged c = grind (arith, common_steps)
 
-pub returns : goal.returns
+pub returns-else-is_damaged : goal.returns-else-is_damaged
 unfolding mark_after
-returns c = rw (sym c.is_answered.ensures ∙ c.if-is_answered.false, sym c.is_damaged.ensures ∙ c.if-is_damaged.false)
+returns-else-is_damaged c = grind (arith, common_steps)

@@ -1,37 +1,24 @@
 -- `tables::scan` meets its contract. Assumes nothing.
-use mathlib.Core.Path.{sym, ◌∙◌}
-use native.Mathlib.Omega.{arith}
-use Rattle.chars.specs.Put.{part}
-use Rattle.model.specs.Tables.{table_area, tables_of}
-use Rattle.layout.specs.Regions.{start_in}
-use Rattle.layout.specs.Unit.{unit_sizes}
-use Rattle.points.proofs.AnswerLaws.{fills_as}
-use Rattle.tables.proofs.TableLaws.{fixed-long, admits-known}
+use Rattle.std.proofs.Common.{refl, arith}
+use Rattle.chars.proofs.PutLaws.{put-none}
+use Rattle.model.specs.Scan.{in_room}
+use Rattle.model.specs.Tables.{tables_of}
+use Rattle.points.proofs.AnswerLaws.{in_room_lem, fills_refused, fills_as, fills_front}
+use Rattle.tables.proofs.Fits.{tables_fit}
 use Rattle.tables.proofs.scan.Goals as goal
 
-pub slice_bounds-table_scan-end : goal.slice_bounds-table_scan-end
-unfolding start_in unit_sizes
-slice_bounds-table_scan-end c = omega (arith, fixed-long _ _ c.told_long-arg-1.given c.fixed_of-fixed.ensures)
+pub returns-in_default : goal.returns-in_default
+unfolding in_room
+returns-in_default c = grind (arith, put-none)
 
-pub overflow_sub-frame : goal.overflow_sub-frame
-overflow_sub-frame c =
-    let a = admits-known _ _ (sym c.admitted.ensures ∙ c.if-admitted.true) in
-    omega (arith, a.low)
-
-pub table_scan-requires : goal.table_scan-requires
-table_scan-requires c =
-    let a = admits-known _ _ (sym c.admitted.ensures ∙ c.if-admitted.true) in
-    omega (arith, a.low, a.high, a.roomy)
-
-pub returns-then-admitted : goal.returns-then-admitted
-unfolding tables_of part table_area
-returns-then-admitted c =
-    let a = admits-known _ _ (sym c.admitted.ensures ∙ c.if-admitted.true) in
-    rw (← c.fixed_of-fixed.ensures) (fills_as (a.asks _) c.table_scan.ensures)
-
-pub turned_away-requires : goal.turned_away-requires
-turned_away-requires c = sym c.admitted.ensures ∙ c.if-admitted.false
-
-pub returns : goal.returns
+pub returns-in-Ok : goal.returns-in-Ok
 unfolding tables_of
-returns c = c.turned_away.ensures _ _
+returns-in-Ok c =
+    let lent = c.in-Some.ensures.cases in
+    fills_as (in_room_lem _ _ lent.enough) (fills_front (tables_fit _ _ _ _) lent (fills_as (c.in-Ok.ensures.asks _) (rw c.area_of.ensures at c.table_scan.ensures)))
+
+pub returns-in-Err : goal.returns-in-Err
+unfolding tables_of
+returns-in-Err c =
+    let lent = c.in-Some.ensures.cases in
+    fills_as (in_room_lem _ _ lent.enough) (fills_front (tables_fit _ _ _ _) lent (fills_refused _ (c.in-Err.ensures.refused _) c.refused-in-Err.ensures refl))

@@ -1,17 +1,21 @@
 -- `tables::stands` meets its contract. Assumes nothing.
-use mathlib.Core.Path.{sym}
-use native.Mathlib.Omega.{arith}
-use Rattle.tables.proofs.TableLaws.{stands-short, stands-zero, stands-head}
+use Rattle.std.proofs.Common.{arith}
+use Rattle.std.proofs.lemmas.Grind.{common_steps}
+use Rattle.model.specs.Tables.{stands_at}
 use Rattle.tables.proofs.stands.Goals as goal
 
-pub returns-then-area-s-lt2 : goal.returns-then-area-s-lt2
-returns-then-area-s-lt2 c = sym (stands-short _ _ (omega arith))
+pub returns-in_default : goal.returns-in_default
+unfolding stands_at
+returns-in_default c = grind (arith, common_steps)
 
-pub returns-then-area-s : goal.returns-then-area-s
-returns-then-area-s c = sym (stands-short _ _ (omega arith))
+pub returns-then-nibbles-ne0 : goal.returns-then-nibbles-ne0
+unfolding stands_at
+returns-then-nibbles-ne0 c = grind (arith, common_steps)
 
-pub returns-then-nibbles-eq0 : goal.returns-then-nibbles-eq0
-returns-then-nibbles-eq0 c = stands-zero _ _ (omega arith) c.wide-n.ensures.0 c.if-nibbles-eq0.true
+pub returns-else-nibbles-ne0 : goal.returns-else-nibbles-ne0
+unfolding stands_at
+returns-else-nibbles-ne0 c = grind (arith, common_steps)
 
-pub returns-else-nibbles-eq0 : goal.returns-else-nibbles-eq0
-returns-else-nibbles-eq0 c = stands-head _ _ (omega arith) c.wide-n.ensures.0 c.if-nibbles-eq0.false
+pub returns-else-from-numbers : goal.returns-else-from-numbers
+unfolding stands_at
+returns-else-from-numbers c = grind (arith, common_steps)

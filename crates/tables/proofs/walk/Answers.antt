@@ -1,47 +1,38 @@
--- `tables::walk` meets its contract. The invariant: the first k tables are passed, and next is where the one after them would start.
--- Assumes nothing.
-use mathlib.Core.Path.{◌≡◌, refl, sym, ap, ◌∙◌}
-use Prim.Native.Nat.{max}
-use native.Mathlib.Omega.{arith}
-use lib.ListN.{length-set}
+-- `tables::walk` meets its contract. The invariant: the first k tables are passed, and next is where the one after them would start. Assumes nothing.
+use Rattle.std.proofs.Common.{◌≡◌, max, length-set, sym, ap, ◌∙◌, arith}
 use Rattle.model.specs.Tables.{table_at}
-use Rattle.tables.proofs.TableLaws.{stands-fits, start-next, start-ended}
-use Rattle.tables.proofs.WalkLaws.{present-stands, passed_more, passed_ended}
+use Rattle.model.specs.declared.Table.{Table}
+use Rattle.tables.proofs.TableLaws.{start-next, start-ended, stands-fits}
+use Rattle.tables.proofs.WalkLaws.{flag-down, flag-up, present-stands, passed_more, passed_ended}
 use Rattle.tables.proofs.walk.Goals as goal
 
-pub loop-k-init : goal.loop-k-init
-loop-k-init c =
-    let p = c.requires.s_value in
-    (omega arith, omega arith, p.0, p.1, refl, p.2)
+pub returns-then-not-t-clause-value : goal.returns-then-not-t-clause-value
+returns-then-not-t-clause-value c =
+    let e = c.table_at-t.ensures.value ∙ ap (table_at _) c.loop-k.invariant.0 in
+    (sym c.told-area ∙ sym (start-ended _ _ _ e (flag-down _ c.if-not-t.true) (omega arith)), omega arith)
+
+pub returns-then-not-t-clause-passed : goal.returns-then-not-t-clause-passed
+returns-then-not-t-clause-passed c =
+    let e = c.table_at-t.ensures.value ∙ ap (table_at _) c.loop-k.invariant.0 in
+    passed_ended c.loop-k.invariant.2 _ (ap (λ (t : Table). t.present) (sym e) ∙ flag-down _ c.if-not-t.true) (omega arith) (omega (arith, c.loop-k.invariant.4))
 
 pub overflow_cast-starts : goal.overflow_cast-starts
-overflow_cast-starts c =
-    let t = c.table_at-t in
-    omega (arith, stands-fits _ _ (present-stands _ _ t.ensures.value c.if-t.true))
-
-pub returns-else-t : goal.returns-else-t
-returns-else-t c =
-    let i = c.loop-k.invariant in
-    let e = c.table_at-t.ensures.value ∙ ap (table_at _) i.2 in
-    record { value = (sym (start-ended _ _ _ e c.if-t.false (omega arith)), omega arith); passed = passed_ended i.5 _ (ap (λ t. t.present) (sym e) ∙ c.if-t.false) i.1 (omega arith) }
+overflow_cast-starts c = omega (arith, stands-fits _ _ (present-stands _ _ c.table_at-t.ensures.value (flag-up _ c.if-not-t.false)))
 
 pub loop-k-preserved : goal.loop-k-preserved
 loop-k-preserved c =
     let i = c.loop-k.invariant in
     let t = c.table_at-t in
-    let e = t.ensures.value ∙ ap (table_at _) i.2 in
-    let h = c.if-t.true in (
+    let h = flag-up _ c.if-not-t.false in (
+      rw c.from.ensures (sym (start-next _ _ (t.ensures.value ∙ ap (table_at _) i.0) h)),
+      omega (arith, t.ensures.within.inside),
+      passed_more i.2 (omega (arith, i.4)) i.0 (present-stands _ _ t.ensures.value h),
       omega arith,
-      omega arith,
-      sym (start-next _ _ e h),
-      t.ensures.within.inside,
       simp length-set i.4,
-      passed_more i.5 (omega arith) i.2 (present-stands _ _ t.ensures.value h),
     )
 
 pub returns : goal.returns
 returns c =
-    let a = c.args in
     let i = c.loop-k.invariant in
-    let e : c.loop-k.k ≡ max a.from a.to = omega arith in
-    rw (← e) record { value = (i.2, i.3); passed = i.5 }
+    let e : c.loop-k.k ≡ max c.args.from c.args.to = omega arith in
+    rw (← e) record { value = (i.0, i.1); passed = i.2 }

@@ -2,4 +2,4 @@
 use Rattle.board.proofs.answers.answer_number.Goals as goal
 
 pub returns-in-Ended : goal.returns-in-Ended
-returns-in-Ended c = rw c.in-Ended.is c.number.ensures
+returns-in-Ended c = rw c.in-Ended.is c.from.ensures

@@ -1,21 +1,24 @@
 -- `board::answers::bits_number` meets its contract. Assumes nothing.
-use mathlib.Core.Path.{refl}
-use Rattle.unit.specs.Samples.{Numeric}
-use Rattle.board.specs.Told.{bits_number}
+use Rattle.std.proofs.Common.{arith}
+use Rattle.std.proofs.lemmas.Grind.{common_steps}
+use Rattle.unit.specs.Samples.{IsNumber, Numeric}
+use Rattle.board.specs.Told.{bits_in, bits_number}
 use Rattle.board.proofs.answers.bits_number.Goals as goal
 
-pub bits_in-requires : goal.bits_in-requires
-unfolding Numeric
-bits_in-requires c = rw c.in-Sampling.is at c.requires
+pub float_to_bits-result : goal.float_to_bits-result
+unfolding IsNumber Numeric
+float_to_bits-result c =
+    let sampled = rw c.in-Sampling-Ready.is at c.in-Sampling-Ready.field-0-is in
+    rw sampled at (rw c.in-Sampling-Ready.is at c.requires)
 
-pub returns-in-Ended : goal.returns-in-Ended
-unfolding bits_number
-returns-in-Ended c = rw c.in-Ended.is refl
+pub returns-in-Sampling-Ready : goal.returns-in-Sampling-Ready
+unfolding bits_in bits_number
+returns-in-Sampling-Ready c = grind (arith, common_steps)
 
-pub returns-in-Storing : goal.returns-in-Storing
-unfolding bits_number
-returns-in-Storing c = rw c.in-Storing.is refl
+pub returns-in-Sampling-NotReady : goal.returns-in-Sampling-NotReady
+unfolding bits_in bits_number
+returns-in-Sampling-NotReady c = grind (arith, common_steps)
 
-pub returns-in-Sampling : goal.returns-in-Sampling
-unfolding bits_number
-returns-in-Sampling c = rw c.in-Sampling.is c.bits_in.ensures
+pub returns-in-Sampling-NotReady-2 : goal.returns-in-Sampling-NotReady-2
+unfolding bits_in bits_number
+returns-in-Sampling-NotReady-2 c = grind (arith, common_steps)

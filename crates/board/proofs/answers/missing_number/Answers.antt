@@ -1,16 +1,17 @@
 -- `board::answers::missing_number` meets its contract. Assumes nothing.
-use mathlib.Core.Path.{refl}
-use Rattle.board.specs.Told.{missing_number}
+use Rattle.std.proofs.Common.{arith}
+use Rattle.std.proofs.lemmas.Grind.{common_steps}
+use Rattle.board.specs.Told.{missing_in, missing_number}
 use Rattle.board.proofs.answers.missing_number.Goals as goal
 
-pub returns-in-Ended : goal.returns-in-Ended
-unfolding missing_number
-returns-in-Ended c = rw c.in-Ended.is refl
+pub returns-in-Sampling-NotReady : goal.returns-in-Sampling-NotReady
+unfolding missing_in missing_number
+returns-in-Sampling-NotReady c = grind (arith, common_steps)
 
-pub returns-in-Storing : goal.returns-in-Storing
-unfolding missing_number
-returns-in-Storing c = rw c.in-Storing.is refl
+pub returns-in-Sampling-Ready : goal.returns-in-Sampling-Ready
+unfolding missing_in missing_number
+returns-in-Sampling-Ready c = grind (arith, common_steps)
 
-pub returns-in-Sampling : goal.returns-in-Sampling
-unfolding missing_number
-returns-in-Sampling c = rw c.in-Sampling.is c.missing_in.ensures
+pub returns-in-Sampling-Ready-2 : goal.returns-in-Sampling-Ready-2
+unfolding missing_in missing_number
+returns-in-Sampling-Ready-2 c = grind (arith, common_steps)

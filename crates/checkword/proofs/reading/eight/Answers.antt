@@ -1,14 +1,12 @@
--- `checkword::reading::eight` meets its contract, by the numbers of its two halves.
+-- `checkword::reading::eight` meets its contract: std puts the characters together as they stand on the line.
 -- Assumes nothing.
-use Prim.Native.Nat.{◌+◌, ◌≤◌}
+use mathlib.Core.Path.{◌∙◌}
 use native.Mathlib.Omega.{arith}
-use lib.ListN.{length}
-use Rattle.checkword.proofs.Line.{line_join}
+use Rattle.checkword.proofs.Line.{line_eight}
 use Rattle.checkword.proofs.reading.eight.Goals as goal
 
 pub returns : goal.returns
 returns c =
-    let known = c.shared_slice_known-1.given in
     let a = c.args in
-    let h : a.i + 4 ≤ length a.s.now = omega arith in
-    omega (arith, line_join a.s.now (λ i. (known i).fits) a.i 4 4 h, c.four.ensures, c.four-2.ensures)
+    let read = rw c.unwrap.ensures at c.try_into.ensures.1 in
+    c.from_le_bytes.ensures ∙ line_eight a.s.now (λ i. (c.type_inv.s i).fits) a.i _ (omega arith) read.same

@@ -1,7 +1,7 @@
--- `checkword::reading::few` meets its contract. The loop's invariant: the characters before i are in the high places.
+-- `checkword::reading::few` meets its contract. The loop's invariant: the characters so far are in the high places.
 -- Assumes nothing.
 use mathlib.Core.Path.{◌≡◌, refl, ap, ap₂, ◌∙◌}
-use Prim.Native.Nat.{◌+◌, ◌-◌, ◌*◌, ◌/◌, ◌^◌}
+use Prim.Native.Nat.{◌+◌, ◌-◌, ◌*◌, ◌/◌, ◌%◌, ◌^◌}
 use native.Mathlib.Omega.{arith}
 use lib.ListN.{length}
 use Rattle.chars.specs.Put.{part}
@@ -10,34 +10,24 @@ use Rattle.checkword.specs.Line.{line}
 use Rattle.checkword.proofs.Line.{line_top}
 use Rattle.checkword.proofs.reading.few.Goals as goal
 
-pub loop-i-init : goal.loop-i-init
+pub loop-c-init : goal.loop-c-init
 unfolding line part
-loop-i-init c = (omega arith, omega arith, refl)
-
-pub overflow_mul-v : goal.overflow_mul-v
-overflow_mul-v c =
-    let known = c.shared_slice_known-1.given in
-    omega (arith, (known c.loop-i.i).fits, c.pair.ensures)
+loop-c-init c = refl
 
 pub overflow_add-v : goal.overflow_add-v
-overflow_add-v c =
-    let known = c.shared_slice_known-1.given in
-    omega (arith, (known c.loop-i.i).fits, c.pair.ensures)
+overflow_add-v c = omega (arith, (c.type_inv.s c.loop-c.c-index).fits, c.from.ensures)
 
-pub loop-i-preserved : goal.loop-i-preserved
-loop-i-preserved c =
+pub loop-c-preserved : goal.loop-c-preserved
+loop-c-preserved c =
     let s = c.args.s.now in
-    let known = c.shared_slice_known-1.given in
-    let l = c.loop-i in (
-      omega arith,
-      omega (arith, (known l.i).fits, c.pair.ensures),
-      ap (λ x. l.v / 256 + 2 ^ 56 * x) (omega (arith, c.pair.ensures))
-          ∙ line_top s (λ i. (known i).fits) l.i l.v (omega arith) (omega arith) l.invariant.2,
-    )
+    let l = c.loop-c in
+    let top : c.from.result * 2 ^ 56 % 2 ^ 64 ≡ 2 ^ 56 * c.from.result = omega (arith, (c.type_inv.s l.c-index).fits, c.from.ensures) in
+    ap (λ x. l.v / 256 + x) (top ∙ ap (λ x. 2 ^ 56 * x) c.from.ensures)
+    ∙ line_top s (λ i. (c.type_inv.s i).fits) l.c-index l.v (omega arith) (omega arith) l.invariant
 
 pub returns : goal.returns
 returns c =
     let s = c.args.s.now in
-    let l = c.loop-i in
-    let e : l.i ≡ length s = omega arith in
-    l.invariant.2 ∙ ap₂ (λ x k. line x * 2 ^ (64 - 8 * k)) (part-whole s l.i e) e
+    let l = c.loop-c in
+    let e : l.c-index ≡ length s = omega arith in
+    l.invariant ∙ ap₂ (λ x k. line x * 2 ^ (64 - 8 * k)) (part-whole s l.c-index e) e

@@ -1,12 +1,8 @@
 use mathlib.Core.Path.{◌≡◌}
-use Prim.Native.Nat.{◌-◌, ◌*◌, ◌^◌, ◌≤◌, ◌<◌}
-use lib.ListN.{length}
+use Prim.Native.Nat.{◌-◌, ◌*◌, ◌^◌}
 use Rattle.chars.specs.Put.{part}
 use Rattle.checkword.specs.Line.{line}
 use Rattle.checkword.proofs.reading.few.Given as goal
 
-abbrev pub invariant-loop-i : goal.invariant-loop-i
-invariant-loop-i l = (l.i ≤ length l.s) × (l.v < 2 ^ 64) × (l.v ≡ line (part l.s 0 l.i) * 2 ^ (64 - 8 * l.i))
-
-abbrev pub decreases-loop-i : goal.decreases-loop-i
-decreases-loop-i l = length l.s - l.i
+abbrev pub invariant-loop-c : goal.invariant-loop-c
+invariant-loop-c l = l.v ≡ line (part l.s 0 l.c-index) * 2 ^ (64 - 8 * l.c-index)

@@ -1,14 +1,12 @@
--- `checkword::reading::four` meets its contract, by the numbers of its two halves.
+-- `checkword::reading::four` meets its contract: std puts the characters together as they stand on the line.
 -- Assumes nothing.
-use Prim.Native.Nat.{◌+◌, ◌≤◌}
+use mathlib.Core.Path.{◌∙◌}
 use native.Mathlib.Omega.{arith}
-use lib.ListN.{length}
-use Rattle.checkword.proofs.Line.{line_join}
+use Rattle.checkword.proofs.Line.{line_four}
 use Rattle.checkword.proofs.reading.four.Goals as goal
 
 pub returns : goal.returns
 returns c =
-    let known = c.shared_slice_known-1.given in
     let a = c.args in
-    let h : a.i + 2 ≤ length a.s.now = omega arith in
-    omega (arith, line_join a.s.now (λ i. (known i).fits) a.i 2 2 h, c.two.ensures, c.two-2.ensures)
+    let read = rw c.unwrap.ensures at c.try_into.ensures.1 in
+    c.from_le_bytes.ensures ∙ line_four a.s.now (λ i. (c.type_inv.s i).fits) a.i _ (omega arith) read.same

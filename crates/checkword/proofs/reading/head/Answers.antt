@@ -8,7 +8,6 @@ use Rattle.checkword.proofs.reading.head.Goals as goal
 
 pub returns : goal.returns
 returns c =
-    let known = c.shared_slice_known-1.given in
     let a = c.args in
     ap (λ x. x * 2 ^ (64 - 8 * a.n) % 2 ^ 64) c.eight.ensures
-    ∙ line-high a.s.now (λ i. (known i).fits) a.n (omega arith) (omega arith)
+    ∙ line-high a.s.now (λ i. (c.type_inv.s i).fits) a.n (omega arith) (omega arith)

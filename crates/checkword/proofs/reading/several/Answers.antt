@@ -11,13 +11,12 @@ use Rattle.checkword.proofs.reading.several.Goals as goal
 pub returns : goal.returns
 returns c =
     let s = c.args.s.now in
-    let known = c.shared_slice_known-1.given in
-    let b = c.four-2.result in
+    let b = c.from-2.result in
     let n = length s in
     let k = 64 - 8 * n in
     let less : b / 2 ^ k ≤ b = shr_le b k in
     let fits : b / 2 ^ k * 2 ^ 32 % 2 ^ 64 ≡ b / 2 ^ k * 2 ^ 32 = omega arith in
     ap (λ x. x * 2 ^ k % 2 ^ 64)
-    (ap₂ ◌+◌ c.four.ensures (fits ∙ ap (λ x. x / 2 ^ k * 2 ^ 32) c.four-2.ensures)
-    ∙ sym (line-ends s (λ i. (known i).fits) n refl (omega arith) (omega arith)))
-    ∙ shl_exact (8 * n) k 64 (line_lt s (λ i. (known i).fits)) (omega arith)
+    (ap₂ ◌+◌ (c.from.ensures ∙ c.four.ensures) (fits ∙ ap (λ x. x / 2 ^ k * 2 ^ 32) (c.from-2.ensures ∙ c.four-2.ensures))
+    ∙ sym (line-ends s (λ i. (c.type_inv.s i).fits) n refl (omega arith) (omega arith)))
+    ∙ shl_exact (8 * n) k 64 (line_lt s (λ i. (c.type_inv.s i).fits)) (omega arith)

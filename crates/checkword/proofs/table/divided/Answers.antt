@@ -10,4 +10,4 @@ pub returns : goal.returns
 returns c =
     let v = c.args.v in
     let t = c.words-table.ensures in
-    xor_words _ t _ ∙ ap (bit_steps 8) (xor_words _ t v) ∙ sym (bit_steps_add 8 8 v)
+    rw (c.from-2.ensures, c.from.ensures) (xor_words _ t _ ∙ ap (bit_steps 8) (xor_words _ t v) ∙ sym (bit_steps_add 8 8 v))

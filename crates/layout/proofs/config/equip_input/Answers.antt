@@ -6,4 +6,4 @@ use Rattle.layout.proofs.config.equip_input.Goals as goal
 
 pub returns : goal.returns
 unfolding start_in
-returns c = sym (put_one _ _ _)
+returns c = rw (← c.from-n.ensures) (sym (put_one _ _ _))

@@ -1,13 +1,13 @@
 -- `layout::contacts::changed_of` meets its contract. Assumes nothing.
-use mathlib.Core.Path.{sym}
+use Rattle.std.specs.Prelude.{ℕ, List, get_or}
+use mathlib.Core.Path.{sym, ap, ◌∙◌}
+use lib.Dec.{lit<}
+use Rattle.chars.specs.Put.{part}
 use Rattle.layout.specs.Regions.{start_in}
-use Rattle.layout.specs.Unit.{unit_sizes}
-use Rattle.layout.proofs.UnitLaws.{changed_at, changed-past}
+use Rattle.layout.specs.Unit.{unit_sizes, changed_region, unit_from}
+use Rattle.layout.proofs.RegionLaws.{region_part}
 use Rattle.layout.proofs.contacts.changed_of.Goals as goal
 
-pub returns-then-g-lt32 : goal.returns-then-g-lt32
-unfolding start_in unit_sizes
-returns-then-g-lt32 c = sym (changed_at _ _ c.if-g-lt32.true)
-
 pub returns : goal.returns
-returns c = sym (changed-past _ _ c.if-g-lt32.false)
+unfolding unit_from unit_sizes start_in part
+returns c = (rw c.from.ensures at c.char_in.ensures) ∙ ap (λ (t : List ℕ). get_or t c.args.group.0 0) (sym (region_part unit_sizes c.args.unit.now changed_region (lit< tt)))

@@ -9,8 +9,8 @@ use Rattle.layout.proofs.contacts.put_changed.Goals as goal
 
 pub returns-then-g-lt32 : goal.returns-then-g-lt32
 unfolding start_in unit_sizes
-returns-then-g-lt32 c = sym (put_in_lem _ _ _ _ (omega arith) ∙ put_one _ _ _)
+returns-then-g-lt32 c = rw (← c.from-g.ensures) (sym (put_in_lem _ _ _ _ (omega arith) ∙ put_one _ _ _))
 
 pub returns-else-g-lt32 : goal.returns-else-g-lt32
 unfolding unit_sizes
-returns-else-g-lt32 c = sym (put_out _ _ _ _ (omega arith))
+returns-else-g-lt32 c = rw (← c.from-g.ensures) (sym (put_out _ _ _ _ (omega arith)))

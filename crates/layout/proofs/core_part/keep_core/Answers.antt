@@ -7,7 +7,7 @@ use Rattle.layout.proofs.core_part.keep_core.Goals as goal
 
 pub returns : goal.returns
 returns c =
-    let long : length c.args.unit.now ≡ unit_figure = omega (arith, c.told_long-arg-2-1.given) in
+    let long : length c.args.unit.now ≡ unit_figure = omega (arith, c.told-unit) in
     core-kept c.args.core long
     c.keep_clock.ensures
     c.keep_hold.ensures

@@ -1,16 +1,20 @@
 -- `layout::equipment::has_calculation` meets its contract. Assumes nothing.
-use native.Mathlib.Omega.{arith}
-use borrow.Author.Tests.{lt-ltb, le-ltb}
+use Rattle.std.proofs.Common.{ℕ, List, sym, ap, ◌∙◌, lt-ltb, le-ltb}
+use lib.Dec.{lit<}
+use Rattle.chars.specs.Put.{part}
 use Rattle.model.specs.Config.{has, has_calculation}
 use Rattle.layout.specs.Regions.{start_in}
-use Rattle.layout.specs.Unit.{unit_sizes}
-use Rattle.layout.proofs.UnitLaws.{calculation_at}
+use Rattle.layout.specs.Unit.{unit_sizes, calculations_region, config_from, unit_from}
+use Rattle.layout.proofs.RegionLaws.{region_part}
+use Rattle.layout.proofs.JudgedLaws.{and_on, and_off}
 use Rattle.layout.proofs.equipment.has_calculation.Goals as goal
 
-pub returns-then-n-lt128 : goal.returns-then-n-lt128
-unfolding has has_calculation start_in unit_sizes
-returns-then-n-lt128 c = rw (calculation_at c.args.unit.now c.args.number.0 (omega arith)) (simp (lt-ltb _ _ c.if-n-lt128.true))
+pub returns-then-number-lt128 : goal.returns-then-number-lt128
+unfolding has_calculation unit_from config_from unit_sizes start_in part
+returns-then-number-lt128 c =
+    and_on (lt-ltb _ _ c.if-number-lt128.true)
+    (c.is_set.ensures ∙ ap (λ (t : List ℕ). has t c.args.number.0) (sym (region_part unit_sizes c.args.unit.now calculations_region (lit< tt))))
 
-pub returns-else-n-lt128 : goal.returns-else-n-lt128
+pub returns-else-number-lt128 : goal.returns-else-number-lt128
 unfolding has_calculation
-returns-else-n-lt128 c = simp (le-ltb _ _ c.if-n-lt128.false)
+returns-else-number-lt128 c = and_off _ (le-ltb _ _ c.if-number-lt128.false) (le-ltb _ _ c.if-number-lt128.false)

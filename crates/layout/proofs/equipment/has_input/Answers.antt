@@ -1,11 +1,14 @@
 -- `layout::equipment::has_input` meets its contract. Assumes nothing.
-use native.Mathlib.Omega.{arith}
+use Rattle.std.specs.Prelude.{ℕ, List}
+use mathlib.Core.Path.{sym, ap, ◌∙◌}
+use lib.Dec.{lit<}
+use Rattle.chars.specs.Put.{part}
 use Rattle.model.specs.Config.{has}
 use Rattle.layout.specs.Regions.{start_in}
-use Rattle.layout.specs.Unit.{unit_sizes}
-use Rattle.layout.proofs.UnitLaws.{input_at}
+use Rattle.layout.specs.Unit.{unit_sizes, inputs_region, config_from, unit_from}
+use Rattle.layout.proofs.RegionLaws.{region_part}
 use Rattle.layout.proofs.equipment.has_input.Goals as goal
 
 pub returns : goal.returns
-unfolding has start_in unit_sizes
-returns c = rw (input_at c.args.unit.now c.args.number.0 (omega arith))
+unfolding unit_from config_from unit_sizes start_in part
+returns c = c.is_set.ensures ∙ ap (λ (t : List ℕ). has t c.args.number.0) (sym (region_part unit_sizes c.args.unit.now inputs_region (lit< tt)))

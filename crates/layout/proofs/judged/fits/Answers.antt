@@ -12,7 +12,7 @@ use Rattle.layout.proofs.judged.fits.Goals as goal
 
 pub returns-then-plans_judged : goal.returns-then-plans_judged
 returns-then-plans_judged c =
-    let long : length c.args.unit.now ≡ unit_figure = omega (arith, c.told_long-arg-1.given) in
+    let long : length c.args.unit.now ≡ unit_figure = omega (arith, c.told-unit) in
     let judged = sym c.files_judged.ensures ∙ c.if-files_judged.true in
     (and_on (eq-eqb _ _ (sym c.layout_of.ensures ∙ c.if-layout_of-eq-CURRENT.true))
     (and_on (sym c.core_judged.ensures ∙ c.if-core_judged.true)
@@ -25,7 +25,7 @@ returns-then-plans_judged c =
 
 pub returns-else-plans_judged : goal.returns-else-plans_judged
 returns-else-plans_judged c =
-    let long : length c.args.unit.now ≡ unit_figure = omega (arith, c.told_long-arg-1.given) in
+    let long : length c.args.unit.now ≡ unit_figure = omega (arith, c.told-unit) in
     let judged = sym c.files_judged.ensures ∙ c.if-files_judged.true in
     (and_on (eq-eqb _ _ (sym c.layout_of.ensures ∙ c.if-layout_of-eq-CURRENT.true))
     (and_on (sym c.core_judged.ensures ∙ c.if-core_judged.true)
@@ -37,7 +37,7 @@ returns-else-plans_judged c =
 
 pub returns-else-means_fit : goal.returns-else-means_fit
 returns-else-means_fit c =
-    let long : length c.args.unit.now ≡ unit_figure = omega (arith, c.told_long-arg-1.given) in
+    let long : length c.args.unit.now ≡ unit_figure = omega (arith, c.told-unit) in
     let judged = sym c.files_judged.ensures ∙ c.if-files_judged.true in
     (and_on (eq-eqb _ _ (sym c.layout_of.ensures ∙ c.if-layout_of-eq-CURRENT.true))
     (and_on (sym c.core_judged.ensures ∙ c.if-core_judged.true)
@@ -48,7 +48,7 @@ returns-else-means_fit c =
 
 pub returns-else-files_judged : goal.returns-else-files_judged
 returns-else-files_judged c =
-    let long : length c.args.unit.now ≡ unit_figure = omega (arith, c.told_long-arg-1.given) in
+    let long : length c.args.unit.now ≡ unit_figure = omega (arith, c.told-unit) in
     (and_on (eq-eqb _ _ (sym c.layout_of.ensures ∙ c.if-layout_of-eq-CURRENT.true))
     (and_on (sym c.core_judged.ensures ∙ c.if-core_judged.true)
     (and_on (sym c.config_judged.ensures ∙ c.if-config_judged.true)
@@ -57,7 +57,7 @@ returns-else-files_judged c =
 
 pub returns-else-config_judged : goal.returns-else-config_judged
 returns-else-config_judged c =
-    let long : length c.args.unit.now ≡ unit_figure = omega (arith, c.told_long-arg-1.given) in
+    let long : length c.args.unit.now ≡ unit_figure = omega (arith, c.told-unit) in
     (and_on (eq-eqb _ _ (sym c.layout_of.ensures ∙ c.if-layout_of-eq-CURRENT.true))
     (and_on (sym c.core_judged.ensures ∙ c.if-core_judged.true)
     (and_off _ (sym c.config_judged.ensures ∙ c.if-config_judged.false) c.if-config_judged.false)))
@@ -65,13 +65,13 @@ returns-else-config_judged c =
 
 pub returns-else-core_judged : goal.returns-else-core_judged
 returns-else-core_judged c =
-    let long : length c.args.unit.now ≡ unit_figure = omega (arith, c.told_long-arg-1.given) in
+    let long : length c.args.unit.now ≡ unit_figure = omega (arith, c.told-unit) in
     (and_on (eq-eqb _ _ (sym c.layout_of.ensures ∙ c.if-layout_of-eq-CURRENT.true))
     (and_off _ (sym c.core_judged.ensures ∙ c.if-core_judged.false) c.if-core_judged.false))
     ∙ sym (fits_in_lem _ _ _ long)
 
 pub returns-else-layout_of-eq-CURRENT : goal.returns-else-layout_of-eq-CURRENT
 returns-else-layout_of-eq-CURRENT c =
-    let long : length c.args.unit.now ≡ unit_figure = omega (arith, c.told_long-arg-1.given) in
+    let long : length c.args.unit.now ≡ unit_figure = omega (arith, c.told-unit) in
     (and_off _ (ne_eqb _ _ (λ q. c.if-layout_of-eq-CURRENT.false (c.layout_of.ensures ∙ q))) (ne_eqb _ _ c.if-layout_of-eq-CURRENT.false))
     ∙ sym (fits_in_lem _ _ _ long)

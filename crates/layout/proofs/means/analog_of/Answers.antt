@@ -1,20 +1,14 @@
 -- `layout::means::analog_of` meets its contract. Assumes nothing.
-use mathlib.Core.Path.{sym, ap}
-use Rattle.std.specs.Prelude.{ℕ}
+use Rattle.std.specs.Prelude.{ℕ, List, get_or}
+use mathlib.Core.Path.{sym, ap, ◌∙◌}
+use lib.Dec.{lit<}
+use Rattle.chars.specs.Put.{part}
 use Rattle.model.specs.Config.{analog_at}
-use Rattle.model.specs.declared.Input.{Input}
 use Rattle.layout.specs.Regions.{start_in}
-use Rattle.layout.specs.Unit.{unit_sizes}
-use Rattle.layout.proofs.PlacedLaws.{mean_analog_at, mean_analog_past}
+use Rattle.layout.specs.Unit.{unit_sizes, sampled_region, config_from, unit_from}
+use Rattle.layout.proofs.RegionLaws.{region_part}
 use Rattle.layout.proofs.means.analog_of.Goals as goal
 
-abbrev input : ℕ → Input
-input n = record { 0 = n }
-
-pub returns-then-place-lt-MEANS : goal.returns-then-place-lt-MEANS
-unfolding analog_at start_in unit_sizes
-returns-then-place-lt-MEANS c = ap input (sym (mean_analog_at _ _ c.if-place-lt-MEANS.true))
-
 pub returns : goal.returns
-unfolding analog_at
-returns c = ap input (sym (mean_analog_past _ _ c.if-place-lt-MEANS.false))
+unfolding analog_at unit_from config_from unit_sizes start_in part
+returns c = λ i. record { 0 = (c.char_in.ensures ∙ ap (λ (t : List ℕ). get_or t c.args.place 0) (sym (region_part unit_sizes c.args.unit.now sampled_region (lit< tt)))) i }

@@ -1,15 +1,14 @@
 -- `layout::means::number_at` meets its contract. Assumes nothing.
-use mathlib.Core.Path.{sym}
+use Rattle.std.specs.Prelude.{ℕ, List, get_or}
+use mathlib.Core.Path.{sym, ap, ◌∙◌}
+use lib.Dec.{lit<}
+use Rattle.chars.specs.Put.{part}
 use Rattle.model.specs.Config.{number_at}
 use Rattle.layout.specs.Regions.{start_in}
-use Rattle.layout.specs.Unit.{unit_sizes}
-use Rattle.layout.proofs.PlacedLaws.{mean_number_at, mean_number-past}
+use Rattle.layout.specs.Unit.{unit_sizes, means_region, config_from, unit_from}
+use Rattle.layout.proofs.RegionLaws.{region_part}
 use Rattle.layout.proofs.means.number_at.Goals as goal
 
-pub returns-then-place-lt-MEANS : goal.returns-then-place-lt-MEANS
-unfolding number_at start_in unit_sizes
-returns-then-place-lt-MEANS c = sym (mean_number_at _ _ c.if-place-lt-MEANS.true)
-
 pub returns : goal.returns
-unfolding number_at
-returns c = sym (mean_number-past _ _ c.if-place-lt-MEANS.false)
+unfolding number_at unit_from config_from unit_sizes start_in part
+returns c = c.char_in.ensures ∙ ap (λ (t : List ℕ). get_or t c.args.place 0) (sym (region_part unit_sizes c.args.unit.now means_region (lit< tt)))

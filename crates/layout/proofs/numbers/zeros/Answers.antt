@@ -6,5 +6,5 @@ use Rattle.layout.proofs.numbers.zeros.Goals as goal
 
 pub returns : goal.returns
 returns c =
-    zeros_one (c.sized-a.ensures.0 ∙ c.kept_of.ensures) (c.sized-b.ensures.0 ∙ c.kept_of-2.ensures)
-    (c.sized-c.ensures.0 ∙ c.kept_of-3.ensures) (c.sized-d.ensures.0 ∙ c.kept_of-4.ensures)
+    zeros_one (c.from-a.ensures ∙ c.kept_of.ensures) (c.from-b.ensures ∙ c.kept_of-2.ensures)
+    (c.from-c.ensures ∙ c.kept_of-3.ensures) (c.from-d.ensures ∙ c.kept_of-4.ensures)

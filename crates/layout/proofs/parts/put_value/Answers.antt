@@ -9,8 +9,8 @@ use Rattle.layout.proofs.parts.put_value.Goals as goal
 
 pub returns-then-n-lt128 : goal.returns-then-n-lt128
 unfolding start_in unit_sizes
-returns-then-n-lt128 c = c.put_value.ensures ∙ sym (put_in_lem _ _ _ _ (omega (arith, length-value c.args.value)))
+returns-then-n-lt128 c = rw (← c.from-n.ensures) (c.put_value.ensures ∙ sym (put_in_lem _ _ _ _ (omega (arith, length-value c.args.value))))
 
 pub returns-else-n-lt128 : goal.returns-else-n-lt128
 unfolding unit_sizes
-returns-else-n-lt128 c = sym (put_out _ _ _ _ (omega (arith, length-value c.args.value)))
+returns-else-n-lt128 c = rw (← c.from-n.ensures) (sym (put_out _ _ _ _ (omega (arith, length-value c.args.value))))

@@ -9,4 +9,4 @@ use Rattle.layout.proofs.parts.put_word.Goals as goal
 
 pub returns : goal.returns
 unfolding start_in unit_sizes
-returns c = c.put_word.ensures ∙ sym (put_in_lem _ _ _ _ (omega (arith, length-word c.args.word)))
+returns c = rw (← c.from-n.ensures) (c.put_word.ensures ∙ sym (put_in_lem _ _ _ _ (omega (arith, length-word c.args.word))))

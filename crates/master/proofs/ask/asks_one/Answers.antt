@@ -1,38 +1,21 @@
--- `master::ask::asks_one` meets its contract, an arm a function. Assumes nothing.
-use borrow.Author.Rules.{rules}
-use Rattle.model.specs.Config.{within}
-use Rattle.model.specs.Scan.{counts}
+-- `master::ask::asks_one` meets its contract: a code of no function asks nothing.
+use Rattle.std.proofs.Common.{arith}
+use Rattle.std.proofs.lemmas.Grind.{common_steps}
 use Rattle.model.specs.Ask.{asks_one}
+use Rattle.model.specs.Function.{code_of}
+use Rattle.model.specs.declared.function.Function.TheVariants.{Inputs, Calculations, History, Tables, Control, Internal, Return}
+use Rattle.frames.proofs.Named.{unnamed}
 use Rattle.master.proofs.ask.asks_one.Goals as goal
 
-pub returns-in-0 : goal.returns-in-0
-unfolding asks_one counts
-returns-in-0 c = simp (c.in-0.is, c.clear.ensures)
-
-pub returns-in-3 : goal.returns-in-3
+pub returns-in-Err : goal.returns-in-Err
 unfolding asks_one
-returns-in-3 c = simp c.in-3.is (simp c.in-3.is at c.asks_values.ensures)
-
-pub returns-in-4 : goal.returns-in-4
-unfolding asks_one counts
-returns-in-4 c = simp c.in-4.is
-
-pub returns-in-10 : goal.returns-in-10
-unfolding asks_one counts within
-returns-in-10 c = simp c.in-10.is
-
-pub returns-in-16 : goal.returns-in-16
-unfolding asks_one
-returns-in-16 c = simp c.in-16.is (simp c.in-16.is at c.asks_control.ensures)
-
-pub returns-in-32 : goal.returns-in-32
-unfolding asks_one
-returns-in-32 c = simp c.in-32.is (simp c.in-32.is at c.asks_internal.ensures)
-
-pub returns-in-40 : goal.returns-in-40
-unfolding asks_one
-returns-in-40 c = simp c.in-40.is (simp c.in-40.is at c.asks_return.ensures)
-
-pub returns-in_default : goal.returns-in_default
-unfolding asks_one
-returns-in_default c = search rules
+returns-in-Err c =
+    let m = unnamed code_of c.args.frame.function c.in-Err.is c.try_from.ensures in
+    let a = m Inputs in
+    let b = m Calculations in
+    let d = m History in
+    let e = m Tables in
+    let f = m Control in
+    let g = m Internal in
+    let h = m Return in
+    grind (arith, common_steps)

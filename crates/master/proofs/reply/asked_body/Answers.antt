@@ -1,7 +1,6 @@
 -- `master::reply::asked_body` meets its contract. Assumes nothing.
-use mathlib.Core.Path.{◌∙◌}
 use Rattle.master.proofs.SettleLaws.{part_from}
 use Rattle.master.proofs.reply.asked_body.Goals as goal
 
 pub returns : goal.returns
-returns c = part_from c.args.poll.now 10 _ _ (c.wide-end.ensures.0 ∙ c.char_at.ensures)
+returns c = part_from c.args.poll.now 10 _ _ c.from.ensures

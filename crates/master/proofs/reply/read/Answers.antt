@@ -8,23 +8,20 @@ use Rattle.master.proofs.reply.read.Goals as goal
 pub returns-then-room-lt-MOST : goal.returns-then-room-lt-MOST
 returns-then-room-lt-MOST c = read_short _ _ _ (omega arith)
 
-pub judge-judged-requires : goal.judge-judged-requires
-judge-judged-requires c = sym c.in_range.ensures ∙ c.if-in_range.true
-
 pub keeps_for-requires : goal.keeps_for-requires
-keeps_for-requires c = length_range _ (sym c.in_range.ensures ∙ c.if-in_range.true)
+keeps_for-requires c = length_range _ (sym c.in_range.ensures ∙ c.if-not-in_range.false)
 
 pub settle-requires : goal.settle-requires
-settle-requires c = kept-long c.args.poll.now c.args.reply.now c.args.room.now (omega arith) (sym c.in_range.ensures ∙ c.if-in_range.true) _ c.judge-judged.ensures _ c.data_of-ys.ensures _ _ c.is_normal.ensures c.keeps_for.ensures
+settle-requires c = kept-long c.args.poll.now c.args.reply.now c.args.room.now (omega arith) (sym c.in_range.ensures ∙ c.if-not-in_range.false) _ c.judge-judged.ensures _ c.data_of-ys.ensures _ _ c.is_normal.ensures c.keeps_for.ensures
 
-pub lay_records-requires : goal.lay_records-requires
-lay_records-requires c = kept_whole c.args.poll.now c.args.reply.now c.args.room.now (omega arith) (sym c.in_range.ensures ∙ c.if-in_range.true) _ c.judge-judged.ensures _ c.data_of-ys.ensures _ _ c.is_normal.ensures c.keeps_for.ensures c.if-anew.true
-
-pub returns-then-anew : goal.returns-then-anew
-returns-then-anew c = read_kept c.args.poll.now c.args.reply.now c.args.room.now (omega arith) (sym c.in_range.ensures ∙ c.if-in_range.true) _ c.judge-judged.ensures _ c.data_of-ys.ensures _ _ c.is_normal.ensures c.keeps_for.ensures c.if-anew.true _ _ _ c.settle.ensures c.lay_records.ensures.0 c.lay_records.ensures.1
-
-pub returns-then-in_range : goal.returns-then-in_range
-returns-then-in_range c = read_none c.args.poll.now c.args.reply.now c.args.room.now (omega arith) (sym c.in_range.ensures ∙ c.if-in_range.true) _ c.judge-judged.ensures _ c.data_of-ys.ensures _ _ c.is_normal.ensures c.keeps_for.ensures c.if-anew.false _ c.settle.ensures
+pub lay_records-count-requires : goal.lay_records-count-requires
+lay_records-count-requires c = kept_whole c.args.poll.now c.args.reply.now c.args.room.now (omega arith) (sym c.in_range.ensures ∙ c.if-not-in_range.false) _ c.judge-judged.ensures _ c.data_of-ys.ensures _ _ c.is_normal.ensures c.keeps_for.ensures c.if-not-anew.false
 
 pub returns : goal.returns
-returns c = read_unranged _ _ _ (omega arith) (sym c.in_range.ensures ∙ c.if-in_range.false)
+returns c = read_kept c.args.poll.now c.args.reply.now c.args.room.now (omega arith) (sym c.in_range.ensures ∙ c.if-not-in_range.false) _ c.judge-judged.ensures _ c.data_of-ys.ensures _ _ c.is_normal.ensures c.keeps_for.ensures c.if-not-anew.false _ _ _ _ c.settle.ensures c.lay_records-count.ensures.0 c.lay_records-count.ensures.1 c.lay_records-count.ensures.2
+
+pub returns-then-not-anew : goal.returns-then-not-anew
+returns-then-not-anew c = read_none c.args.poll.now c.args.reply.now c.args.room.now (omega arith) (sym c.in_range.ensures ∙ c.if-not-in_range.false) _ c.judge-judged.ensures _ c.data_of-ys.ensures _ _ c.is_normal.ensures c.keeps_for.ensures c.if-not-anew.true _ c.settle.ensures
+
+pub returns-then-not-in_range : goal.returns-then-not-in_range
+returns-then-not-in_range c = read_unranged _ _ _ (omega arith) (sym c.in_range.ensures ∙ c.if-not-in_range.true)

@@ -1,5 +1,5 @@
 -- `master::reply::read_poll` meets its contract. Assumes nothing.
-use mathlib.Core.Path.{ap, ◌∙◌}
+use mathlib.Core.Path.{refl, ap, ◌∙◌}
 use Rattle.model.specs.Frame.{Request}
 use Rattle.model.specs.Poll.{read_for}
 use Rattle.master.specs.Polled.{address_in}
@@ -8,4 +8,4 @@ use Rattle.master.proofs.reply.read_poll.Goals as goal
 
 pub returns : goal.returns
 unfolding address_in
-returns c = c.read_for.ensures ∙ ap (λ (q : Request). read_for q c.args.reply.now) (poll-asked c.args.poll.now _ _ _ c.new-frame.ensures c.word_at.ensures c.char_at.ensures c.requires)
+returns c = c.read_for.ensures ∙ ap (λ (q : Request). read_for q c.args.reply.now) (poll-asked c.args.poll.now _ _ _ c.new-frame.ensures c.word_at.ensures refl c.requires)

@@ -1,10 +1,6 @@
-use Prim.Native.Nat.{◌-◌, ◌≤◌}
-use lib.ListN.{length, take}
+use lib.ListN.{take}
 use Rattle.master.specs.Marked.{Marked}
 use Rattle.master.proofs.values.mark.Given as goal
 
-abbrev pub invariant-loop-i : goal.invariant-loop-i
-invariant-loop-i l = (l.i ≤ length l.ys) × Marked (take l.i l.ys) l.marks
-
-abbrev pub decreases-loop-i : goal.decreases-loop-i
-decreases-loop-i l = length l.ys - l.i
+abbrev pub invariant-loop-y : goal.invariant-loop-y
+invariant-loop-y l = Marked (take l.y-index l.ys) l.marks

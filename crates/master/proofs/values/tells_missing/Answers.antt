@@ -13,4 +13,4 @@ misses-requires c = c.mark.ensures
 
 pub returns : goal.returns
 unfolding tells_missing empty
-returns c = simp (c.misses.ensures, missing-some, and_assoc)
+returns c = simp (c.is_empty.ensures, c.misses.ensures, missing-some, and_assoc)

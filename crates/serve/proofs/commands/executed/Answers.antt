@@ -1,6 +1,8 @@
 -- `serve::commands::executed` meets its contract. Assumes nothing.
-use mathlib.Core.Path.{ap, subst, ◌∙◌}
-use mathlib.Core.Bool.{Bool, false, cond}
+use mathlib.Core.Path.{◌≡◌, subst}
+use mathlib.Core.Bool.{false, cond}
+use Rattle.std.proofs.Common.{arith}
+use Rattle.std.proofs.lemmas.Grind.{common_steps}
 use Rattle.model.specs.Step.{with_configure, with_error}
 use Rattle.model.specs.declared.Core.{Core}
 use Rattle.layout.specs.Numbers.{core_in, memory_in, port_in, Written}
@@ -13,12 +15,12 @@ use Rattle.serve.proofs.commands.executed.Goals as goal
 pub returns : goal.returns
 returns c =
     let ks = numbers_in c.args.unit.now in
-    let configure = c.unless.ensures ∙ ap (λ (b : Bool). cond c.args.done.configures false b) c.configure_in-configure.ensures in
-    let error = c.unless-2.ensures ∙ ap (λ (b : Bool). cond c.args.done.clears false b) c.error_in-error.ensures in
+    let configure : c.if-configure_in.configure ≡ cond c.args.done.configures false (core_in ks).configure = grind (arith, common_steps) in
+    let error : c.if-error_in.error ≡ cond c.args.done.clears false (core_in ks).error = grind (arith, common_steps) in
     let one = c.keep_configure.ensures in
     let two = c.keep_error.ensures in
     record {
-      value = c.plain_step.ensures;
+      value = c.from.ensures;
       numbers_promise = (
         λ stands.
             subst (λ (k : Core). Written k (memory_in ks) (port_in ks) (numbers_in c.keep_error.new.unit)) (λ i. with_error (with_configure (core_in ks) (configure i)) (error i))

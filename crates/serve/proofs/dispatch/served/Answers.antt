@@ -21,11 +21,11 @@ returns c =
     let ks = numbers_in u in
     let i = inner_in u c.args.block.now c.args.records.now in
     let q = asked c.args.frame c.args.body.now in
-    let done = c.act-step.ensures in
-    let heard = c.hear.ensures in
+    let done = c.act-outcome.ensures in
+    let heard = rw c.from.ensures at c.hear.ensures in
     let ends = c.settle.ensures in
     let only = numbers_on _ _ _ (numbers_only _ _ heard) ends.1 in
-    let o = c.act-step.result.outcome in
+    let o = c.act-outcome.result.outcome in
     let told = c.start_anew.ensures in
     let same = (unshifted_numbers _ _ only).steady.steady.config ∙ done.1.steady.config in (
       λ y stands.

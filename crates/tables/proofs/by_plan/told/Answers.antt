@@ -1,7 +1,5 @@
--- `tables::by_plan::told` meets its contract: three parts in turn, each in what is left. Assumes nothing.
-use mathlib.Core.Path.{refl, ap}
-use mathlib.Core.List.{List}
-use Prim.Native.Nat.{ℕ}
+-- `tables::by_plan::told` meets its contract. Three parts in turn, each in what is left. Assumes nothing.
+use Rattle.std.proofs.Common.{List, ℕ, ap}
 use Rattle.chars.specs.Gather.{gather}
 use Rattle.chars.proofs.GatherLaws.{gathered_join}
 use Rattle.model.specs.Scan.{tells}
@@ -14,9 +12,8 @@ use Rattle.tables.proofs.by_plan.told.Goals as goal
 
 pub returns : goal.returns
 returns c =
-    let d = c.args in
     let one = c.tell-a.ensures in
     let two = c.tell-b.ensures in
     let own = c.tell-c.ensures in
     fills_gathered Done (gathered_join one.gathered (gathered_join two.gathered own.gathered))
-    (ap (λ (ns : List ℕ). tells (gather (word_in (unit_in d.unit.now).words) ns)) (numbers-told _ _ _ _ one.gathered one.lower_bound.1 two.gathered two.lower_bound.1)) refl
+    (ap (λ (ns : List ℕ). tells (gather (word_in (unit_in c.args.unit.now).words) ns)) (numbers-told _ _ _ _ one.gathered one.lower_bound.1 two.gathered two.lower_bound.1)) c.done.ensures

@@ -1,5 +1,4 @@
-use mathlib.Core.Path.{◌≡◌}
-use Prim.Native.Nat.{◌+◌, ◌*◌, ◌-◌, ◌≤◌}
+use Rattle.std.proofs.Common.{◌≡◌}
 use Rattle.chars.specs.Gather.{gather, up_from}
 use Rattle.model.specs.Tables.{table_area}
 use Rattle.model.specs.Plans.{parts_of}
@@ -7,7 +6,4 @@ use Rattle.layout.specs.Unit.{unit_in, put_plans_at}
 use Rattle.tables.proofs.plans.all_parts.Given as goal
 
 abbrev pub invariant-loop-k : goal.invariant-loop-k
-invariant-loop-k l = (l.k ≤ 16) × (l.at ≡ 16 + 6 * l.k) × (l.unit ≡ put_plans_at l.initial.unit 16 (gather (parts_of (table_area (unit_in l.initial.unit).fixed)) (up_from 0 l.k)))
-
-abbrev pub decreases-loop-k : goal.decreases-loop-k
-decreases-loop-k l = 16 - l.k
+invariant-loop-k l = l.unit ≡ put_plans_at l.initial.unit 16 (gather (parts_of (table_area (unit_in l.initial.unit).fixed)) (up_from 0 l.k))

@@ -1,26 +1,17 @@
 -- `tables::plans::outcomes` meets its contract. The invariant: the outcomes of the first k plans are laid. Assumes nothing.
-use mathlib.Core.Path.{◌≡◌, refl, subst}
-use Prim.Native.Nat.{ℕ}
-use native.Mathlib.Omega.{arith}
+use Rattle.std.proofs.Common.{◌≡◌, ℕ, refl, subst, arith}
 use Rattle.chars.proofs.GatherLaws.{up_none, gathered_none}
-use Rattle.tables.specs.Able.{OutcomesOf}
-use Rattle.tables.proofs.PlannedLaws.{outcome-laid}
-use borrow.Author.Rules.{rules}
+use Rattle.tables.proofs.PlannedLaws.{Outcomes, outcomes_more, outcomes_all}
 use Rattle.tables.proofs.plans.outcomes.Goals as goal
 
 pub loop-k-init : goal.loop-k-init
-loop-k-init c = (omega arith, refl, λ table a. rw up_none (gathered_none _ _ _))
+loop-k-init c = λ table a. rw up_none (gathered_none _ _ _)
 
 pub loop-k-preserved : goal.loop-k-preserved
-loop-k-preserved c =
-    let g = c.loop-k.invariant in (
-      omega arith,
-      search rules,
-      outcome-laid _ g.2 c.found-parts.ensures c.outcome.ensures,
-    )
+loop-k-preserved c = outcomes_more _ c.loop-k.invariant c.found.ensures (rw (← c.from.ensures) at c.outcome.ensures)
 
 pub returns : goal.returns
 returns c =
     let e : c.loop-k.k ≡ 16 = omega arith in
-    let a = c.args in
-    subst (λ (n : ℕ). OutcomesOf a.area.now a.able.now n a.plans.now c.loop-k.plans) e c.loop-k.invariant.2
+    let g = subst (λ (n : ℕ). Outcomes c.args.area.now c.args.able.now n _ c.loop-k.plans) e c.loop-k.invariant in
+    λ table a. outcomes_all _ _ _ refl (g table a).chars

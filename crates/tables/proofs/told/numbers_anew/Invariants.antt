@@ -1,4 +1,3 @@
-use Prim.Native.Nat.{◌-◌, ◌≤◌}
 use Rattle.chars.specs.Put.{part}
 use Rattle.layout.specs.Contacts.{Anew}
 use Rattle.points.proofs.AnewLaws.{groups_of}
@@ -6,7 +5,4 @@ use Rattle.tables.proofs.ToldLaws.{area_of}
 use Rattle.tables.proofs.told.numbers_anew.Given as goal
 
 abbrev pub invariant-loop-i : goal.invariant-loop-i
-invariant-loop-i l = (l.i ≤ l.n) × Anew l.initial.unit l.unit (groups_of l.initial.unit (part (area_of l.initial.unit) l.from l.i))
-
-abbrev pub decreases-loop-i : goal.decreases-loop-i
-decreases-loop-i l = l.n - l.i
+invariant-loop-i l = Anew l.initial.unit l.unit (groups_of l.initial.unit (part (area_of l.initial.unit) l.t.start l.i))

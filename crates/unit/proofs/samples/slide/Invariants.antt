@@ -1,4 +1,4 @@
-use Rattle.std.proofs.Common.{◌≡◌, ◌+◌, ◌-◌, ◌*◌, ◌≤◌, length}
+use Rattle.std.proofs.Common.{◌≡◌, ◌+◌, ◌*◌}
 use lib.Ieee.{binary32, of_int}
 use Rattle.chars.specs.Put.{put, part}
 use Rattle.model.specs.Means.{sum_of}
@@ -6,7 +6,4 @@ use Rattle.layout.specs.Records.{words_from}
 use Rattle.unit.proofs.samples.slide.Given as goal
 
 abbrev pub invariant-loop-i : goal.invariant-loop-i
-invariant-loop-i l = (l.i ≤ l.n) × (length l.records ≡ length l.initial.records) × (l.records ≡ put l.initial.records l.at (part l.initial.records (l.at + l.by) (2 * l.i))) × (l.sum ≡ of_int binary32 (sum_of (words_from l.initial.records (l.at + l.by) l.i)))
-
-abbrev pub decreases-loop-i : goal.decreases-loop-i
-decreases-loop-i l = l.n - l.i
+invariant-loop-i l = (l.records ≡ put l.initial.records l.at (part l.initial.records (l.at + l.by) (2 * l.i))) × (l.sum ≡ of_int binary32 (sum_of (words_from l.initial.records (l.at + l.by) l.i)))

@@ -1,5 +1,5 @@
 -- `unit::samples::take` meets its contract. Assumes nothing.
-use Rattle.std.proofs.Common.{arith}
+use Rattle.std.proofs.Common.{arith, rules}
 use Rattle.unit.specs.Samples.{IsNumber}
 use Rattle.unit.proofs.MeanLaws.{inside, mean_asked, waits-more, number_now, ready_now}
 use Rattle.unit.proofs.samples.take.Goals as goal
@@ -31,7 +31,7 @@ returns-then-k-n c =
     let analog = c.analog_of-analog.ensures in
     let read = c.word_of-sample.ensures in
     let held = c.taken_of-held.ensures in
-    record { take_promise = waits-more c.args.unit.now c.args.records.now c.args.place start window analog read held c.requires.1 c.requires.2 c.requires.3 (λ i. (c.slice_known-1.given i).fits) c.args.number.0 c.if-k-n.true c.put_word.ensures c.put_taken.ensures; number = tt }
+    record { take_promise = waits-more c.args.unit.now c.args.records.now c.args.place start window analog read held c.requires.1 c.requires.2 c.requires.3 (λ i. search rules) c.args.number.0 c.if-k-n.true (rw c.from.ensures at c.put_word.ensures) c.put_taken.ensures; number = tt }
 
 pub mean-x-requires : goal.mean-x-requires
 mean-x-requires c =
