@@ -66,21 +66,25 @@ module _ {area starts : List ℕ} {k : ℕ} (p : StartKept area starts k) (z : 0
 
 -- ---- what is kept
 
-pub passed_none : (area : List ℕ) (n : ℕ) → Passed area (replicate n no_start) 0
-passed_none area n = record {
-  kept = λ j l. absurd (omega arith);
-  ahead = λ j l m. let long : length (replicate n no_start) ≡ n = length-replicate n no_start in get_or-replicate n j no_start 0 (omega arith);
-}
+pub passed_none : (area : List ℕ) (n : ℕ) → 0 < n → Passed area (replicate n no_start) 0
+passed_none area n h =
+    let long : length (replicate n no_start) ≡ n = length-replicate n no_start in record {
+      room = omega arith;
+      kept = λ j l. absurd (omega arith);
+      ahead = λ j l m. get_or-replicate n j no_start 0 (omega arith);
+    }
 
 module _ {area starts : List ℕ} {k : ℕ} (p : Passed area starts k) where
   -- the one law of the walk, over the number of the table
   pub passed_kept : (n : ℕ) → n ≤ k → StartKept area starts n
   passed_kept n h = record {
+    room = omega (arith, p.room);
     start = λ l. let e : n - 1 + 1 ≡ n = omega arith in rw e at (p.kept (n - 1) (omega arith));
   }
 
   pub passed_more : {s : ℕ} → k + 1 < length starts → s ≡ start_of area k → stands_at area s ≡ true → Passed area (set starts (k + 1) s) (k + 1)
   passed_more {s} h e f = record {
+    room = omega (arith, length-set starts (k + 1) s);
     kept = λ j l.
         by_eqb j k
         (λ g. rw g (get_or-set_same starts (k + 1) s 0 h ∙ e ∙ sym (kept_there area k (rw e at f))))
@@ -94,6 +98,7 @@ module _ {area starts : List ℕ} {k : ℕ} (p : Passed area starts k) where
   -- behind an absent table there is none to keep
   pub passed_ended : (n : ℕ) → (table_at area (start_of area k)).present ≡ false → k ≤ n → n < length starts → Passed area starts n
   passed_ended n h l m = record {
+    room = m;
     kept = λ j i.
         by_bool (ltb j k)
         (λ g. p.kept j (ltb-true j k g))

@@ -17,11 +17,13 @@ kept_start area k = cond (stands_at area (start_of area k)) (start_of area k) no
 
 -- the starts of the first k tables are kept at their numbers, and none at those after them
 pub record Passed (area starts : List ℕ) (k : ℕ) : Type 0 where
+  pub room : k < length starts
   pub kept : (j : ℕ) → j < k → get_or starts (j + 1) 0 ≡ kept_start area j
   pub ahead : (j : ℕ) → k < j → j < length starts → get_or starts j 0 ≡ no_start
 
 -- the start of table k is kept, if k is the number of one
 pub record StartKept (area starts : List ℕ) (k : ℕ) : Type 0 where
+  pub room : k < length starts
   pub start : 0 < k → get_or starts k 0 ≡ kept_start area (k - 1)
 
 -- table k, and those that its nibbles name

@@ -7,7 +7,7 @@ use Rattle.tables.proofs.WalkLaws.{passed_none, nibbles-stand, none_named}
 use Rattle.tables.proofs.parts_of.Goals as goal
 
 pub walk-s-requires-clause-s_value : goal.walk-s-requires-clause-s_value
-walk-s-requires-clause-s_value c = (sym (start_none _), omega arith, passed_none _ 16)
+walk-s-requires-clause-s_value c = (sym (start_none _), omega arith, passed_none _ 16 (omega arith))
 
 pub returns-then-own-eq0 : goal.returns-then-own-eq0
 returns-then-own-eq0 c =

@@ -6,7 +6,7 @@ use Rattle.tables.proofs.PlannedLaws.{tables_left, plans-joined}
 use Rattle.tables.proofs.plans.replan.Goals as goal
 
 pub walk-requires-clause-s_value : goal.walk-requires-clause-s_value
-walk-requires-clause-s_value c = (sym (start_none _), omega arith, passed_none _ 16)
+walk-requires-clause-s_value c = (sym (start_none _), omega arith, passed_none _ 16 (omega arith))
 
 pub all_parts-requires : goal.all_parts-requires
 all_parts-requires c =
