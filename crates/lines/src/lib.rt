@@ -1,7 +1,8 @@
 // The lines of the bench program, on slices: what a line says is read, and what is printed for it written.
 #![tactic(auto)]
 
-ghost use Rattle.std.specs.Prelude.{◌≡◌, true, [], ◌∷◌, ◌+◌, ◌-◌, ◌<◌, ◌≤◌, min, length, drop, MatchOption, IfSome, is_some};
+ghost use Rattle.std.specs.Prelude.{◌≡◌, true, [], ◌∷◌, ◌+◌, ◌-◌, ◌<◌, ◌≤◌, min, length, drop, eqb, get_or, MatchOption, IfSome, is_some};
+ghost use Rattle.std.specs.List.{range_with_len};
 ghost use Rattle.chars.specs.Put.{put};
 ghost use Rattle.chars.specs.Gather.{gather, every};
 ghost use Rattle.lines.specs.Line.{hex_val, is_hex, pairs, stretch_of, time_said, says_of, stretch_in, line_of, decimal, hex_digit, hex_of, reply_of, column_of, shown_of, other_line};
@@ -27,10 +28,18 @@ fn hex_value(digit: u8) -> Option<u8>
     }
 }
 
+// With no branch on its kind, which would be guessed wrong of random digits.
+#[tactic(auto, unfolding(crate::specs::Line::hex_val, crate::specs::Line::is_hex))]
+fn is_hex(digit: u8) -> bool
+    ensures { result ≡ is_hex digit }
+{
+    digit.is_ascii_digit() | (b'A'..=b'F').contains(&digit)
+}
+
 fn all_hex(digits: &[u8]) -> bool
     ensures { result ≡ every is_hex digits.now }
 {
-    digits.iter().all(|digit| hex_value(*digit).is_some())
+    digits.iter().all(|digit| is_hex(*digit))
 }
 
 fn put_pairs(digits: &[u8], out: &mut [u8])
@@ -38,9 +47,10 @@ fn put_pairs(digits: &[u8], out: &mut [u8])
     ensures { out.new ≡ put out.old 0 (pairs digits.now) }
 {
     let count = out.len().min(digits.len() / 2);
+    // Each is a digit, so none is read as 0: `unwrap` would leave a branch.
     for i in 0..count {
-        let high = hex_value(digits[2 * i]).unwrap();
-        let low = hex_value(digits[2 * i + 1]).unwrap();
+        let high = hex_value(digits[2 * i]).unwrap_or(0);
+        let low = hex_value(digits[2 * i + 1]).unwrap_or(0);
         out[i] = 16 * high + low;
     }
 }
@@ -103,14 +113,22 @@ fn put_digits(buf: &mut [u8; 20], n: u64) -> usize
     unreachable!()
 }
 
+// The digits of hex, in a table: printing one is a look-up and no choice.
+static DIGITS: [u8; 16] = [
+    b'0', b'1', b'2', b'3', b'4', b'5', b'6', b'7', b'8', b'9', b'A', b'B', b'C', b'D', b'E', b'F',
+];
+
+fn digits() -> &'static [u8; 16]
+    ensures { every (λ v. eqb (get_or result.now v 0) (hex_digit v)) (range_with_len 0 16) ≡ true }
+{
+    &DIGITS
+}
+
 fn hex_digit(value: u8) -> u8
     requires { value < 16 }
     ensures { result ≡ hex_digit value }
 {
-    match value {
-        0..=9 => b'0' + value,
-        _ => b'A' + (value - 10),
-    }
+    digits()[usize::from(value)]
 }
 
 // Lent memory, and how many characters were written to it. What it has no room for is left out.
@@ -149,7 +167,8 @@ impl Page<'_> {
     fn put_hex(&mut self, character: u8)
         ensures { Adds self.old self.new (hex_of character) }
     {
-        self.put_all(&[hex_digit(character / 16), hex_digit(character % 16)]);
+        self.put(hex_digit(character / 16));
+        self.put(hex_digit(character % 16));
     }
 
     fn put_hexes(&mut self, characters: &[u8])
