@@ -1,5 +1,5 @@
 // Lines from standard input and to standard output, in fixed memory: characters are read and written many at a time.
-ghost use Rattle.std.specs.Prelude.{◌≡◌, ◌+◌, ◌^◌, ◌≤◌, ◌<◌};
+ghost use Rattle.std.specs.Prelude.{◌≡◌, ◌+◌, ◌^◌, ◌≤◌, ◌<◌, take};
 ghost use Rattle.bench.specs.declared.flow.TheConstants.{READ, LINE, SHOWN};
 
 use std::io::{Read, Write};
@@ -17,7 +17,7 @@ const ROOM: usize = 2048;
 // How far reading and writing are. Of the characters read those from `at` to `held` are still to be taken. Of a line `length` characters
 // are kept, 2,001 of one that is too long. `number` lines were answered, `waiting` characters are still to be written, and with `over`
 // nothing more is read.
-#[derive(Drop)]
+#[derive(Clone, Copy)]
 pub struct Flow {
     read: [u8; READ],
     line: [u8; LINE],
@@ -51,12 +51,16 @@ impl Flow {
         }
     }
 
-    pub fn is_over(&self) -> bool {
+    pub fn is_over(&self) -> bool
+        ensures { result ≡ self.now.over }
+    {
         self.over
     }
 
     // What is kept of the line.
-    pub fn line(&self) -> &[u8] {
+    pub fn line(&self) -> &[u8]
+        ensures { result.now ≡ take self.now.length self.now.line }
+    {
         &self.line[..self.length]
     }
 
