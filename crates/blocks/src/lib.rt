@@ -56,6 +56,7 @@ fn piece(area: &[u8], base: usize, size: usize) -> &[u8]
 }
 
 // The block of an ordinal, from whichever of the two areas holds it.
+#[tactic(auto, unfolding(model::specs::Blocks::known, model::specs::Blocks::block_of))]
 fn block_of<'a>(fixed: &'a [u8], block: &'a [u8], ordinal: u8) -> Option<&'a [u8]>
     ensures known { is_some result ≡ definition.known ordinal }
     ensures lies { MatchOption result (definition.block_of fixed.now block.now ordinal ≡ [])
@@ -82,6 +83,7 @@ pub fn find<'a>(
 }
 
 // The ordinal's block has count characters from the bias on.
+#[tactic(auto, unfolding(model::specs::Blocks::reaches))]
 pub fn reaches(fixed: &[u8], block: &[u8], ordinal: Ordinal, bias: u16, count: u8) -> bool
     ensures { result ≡ definition.reaches fixed.now block.now ordinal.0 bias count }
 {

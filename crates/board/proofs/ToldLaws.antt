@@ -15,9 +15,9 @@ use Rattle.board.specs.Runs.{numbered, unsampled, numbers_shown}
 
 -- ---- a stretch
 
-pub turned_told : (m : Made) {a b : ℕ} → a ≡ action_number m.action → b ≡ output_number m.action
-    → (m.sent % 256 ∷ m.sent / 256 % 256 ∷ a ∷ b ∷ []) ≡ turned_by m
-turned_told m p q = λ i. m.sent % 256 ∷ m.sent / 256 % 256 ∷ p i ∷ q i ∷ []
+pub turned_told : (m : Made) {l h a b : ℕ} → l ≡ m.sent % 256 → h ≡ m.sent / 256 % 256 → a ≡ action_number m.action → b ≡ output_number m.action
+    → (l ∷ h ∷ a ∷ b ∷ []) ≡ turned_by m
+turned_told m e f p q = λ i. e i ∷ f i ∷ p i ∷ q i ∷ []
 
 -- how many are sent stands in two characters
 sent_back : (m : Made) → m.sent ≤ longest_reply → word_at (turned_by m) 0 ≡ m.sent

@@ -23,6 +23,7 @@ pub struct Set {
 }
 
 // Of a number over 99 the last two digits: a character holds no more.
+#[tactic(auto, unfolding(model::specs::Clock::bcd))]
 pub fn to_bcd(n: u8) -> u8
     ensures { result ≡ bcd (n % 100) }
 {

@@ -25,7 +25,7 @@ use Rattle.model.specs.declared.Table.{Table}
 use Rattle.model.proofs.Conditions.{by_eqb}
 use Rattle.layout.specs.Unit.{Unit, unit_sizes, plans_region, unit_in, put_plans_at, put_plans}
 use Rattle.layout.proofs.UnitLaws.{put_in_lem, plans-put, plans-then}
-use Rattle.tables.specs.Walked.{Found}
+use Rattle.tables.specs.Walked.{Passed, Found}
 use Rattle.tables.specs.Able.{Able, reply_end, OutcomeOf}
 use Rattle.tables.specs.declared.Parts.{Parts}
 
@@ -88,31 +88,31 @@ module _ (words area plans : List ℕ) (k : ℕ) where
       let g : 16 + 6 * k + 2 * 2 ≡ at + 4 = omega arith in
       λ i. take 255 (from (e i) ++ (from (f i) ++ from (g i)))
 
-  pub numbers-told : {entry one two : List ℕ} {a b : ℕ} → Gathered (word_in words) (take ((reply_end - reply_head) / 2) (from at)) entry reply_head one a → a ≤ reply_end
-      → Gathered (word_in words) (take ((reply_end - a) / 2) (from (at + 2))) one a two b → b ≤ reply_end
+  pub numbers-told : {p : ℕ} {entry one two : List ℕ} {a b : ℕ} → p ≡ at → Gathered (word_in words) (take ((reply_end - reply_head) / 2) (from p)) entry reply_head one a
+      → a ≤ reply_end → Gathered (word_in words) (take ((reply_end - a) / 2) (from (p + 2))) one a two b → b ≤ reply_end
       → planned_numbers plans area k
-      ≡ take ((reply_end - reply_head) / 2) (from at) ++ (take ((reply_end - a) / 2) (from (at + 2)) ++ take ((reply_end - b) / 2) (from (at + 4)))
-  numbers-told {a = a} g h f i =
+      ≡ take ((reply_end - reply_head) / 2) (from p) ++ (take ((reply_end - a) / 2) (from (p + 2)) ++ take ((reply_end - b) / 2) (from (p + 4)))
+  numbers-told {a = a} e = rw e (λ g h f i.
       let A = from at in
       let l : (reply_end - a) / 2 ≡ 255 - length (take 255 A) = left_behind words _ g h in
       let m = left_behind words _ f i in
       parts_from ∙ take_split 255 A (from (at + 2) ++ from (at + 4))
-      ∙ rw (m, l) (ap (λ (r : List ℕ). take 255 A ++ r) (take_split (255 - length (take 255 A)) (from (at + 2)) (from (at + 4))))
+      ∙ rw (m, l) (ap (λ (r : List ℕ). take 255 A ++ r) (take_split (255 - length (take 255 A)) (from (at + 2)) (from (at + 4)))))
 
 -- ---- an answer by its plan
 
-module _ (plans area words : List ℕ) (k : ℕ) {o : ℕ} (e : o ≡ get_or plans k 0) where
-  pub plan_told : o ≡ 0 → planned_scan plans area words k ≡ tells (gather (word_in words) (planned_numbers plans area k))
+module _ (plans area words : List ℕ) (k : ℕ) {p : ℕ} where
+  pub plan_told : get_or plans p 0 ≡ 0 → p ≡ k → planned_scan plans area words k ≡ tells (gather (word_in words) (planned_numbers plans area k))
   unfolding planned_scan
-  plan_told z = rw (← e, z)
+  plan_told z e = rw (← e, z)
 
-  pub plan_long : (o ≡ 0 → ⊥) → o ≡ 9 → planned_scan plans area words k ≡ refuses TooLong
+  pub plan_long : (get_or plans p 0 ≡ 0 → ⊥) → get_or plans p 0 ≡ 9 → p ≡ k → planned_scan plans area words k ≡ refuses TooLong
   unfolding planned_scan
-  plan_long z n = rw (← e, n)
+  plan_long z n e = rw (← e, n)
 
-  pub plan_not-valid : (o ≡ 0 → ⊥) → (o ≡ 9 → ⊥) → planned_scan plans area words k ≡ refuses NotValid
+  pub plan_not-valid : (get_or plans p 0 ≡ 0 → ⊥) → (get_or plans p 0 ≡ 9 → ⊥) → p ≡ k → planned_scan plans area words k ≡ refuses NotValid
   unfolding planned_scan
-  plan_not-valid z n = rw (← e, ne_eqb o 0 z, ne_eqb o 9 n)
+  plan_not-valid z n e = rw (← e, ne_eqb (get_or plans p 0) 0 z, ne_eqb (get_or plans p 0) 9 n)
 
 -- ---- which tables can be sent
 
@@ -214,3 +214,15 @@ pub outcomes_all : (table area entry : List ℕ) {exit : List ℕ} → length en
 outcomes_all table area entry l e =
     let g = gather-each (λ k. outcome_for table area k ∷ []) 1 (λ k. refl) (up_from 0 16) in
     e ∙ put_all entry _ (omega (arith, g, length_up 0 16))
+
+-- what is kept, and what comes of it, is of whatever comes to the same area
+pub passed_same : {a b starts : List ℕ} {k : ℕ} → a ≡ b → Passed b starts k → Passed a starts k
+passed_same e p = rw e p
+
+pub outcomes_same : (table : List ℕ) {a b ps : List ℕ} → a ≡ b → ps ≡ gather (λ k. outcome_for table b k ∷ []) (up_from 0 16)
+    → ps ≡ gather (λ k. outcome_for table a k ∷ []) (up_from 0 16)
+outcomes_same table e f = rw e f
+
+-- the same scan, of what comes to the same area
+pub planned_same : (plans words : List ℕ) (k : ℕ) {a b : List ℕ} → a ≡ b → planned_scan plans a words k ≡ planned_scan plans b words k
+planned_same plans words k e = λ i. planned_scan plans (e i) words k

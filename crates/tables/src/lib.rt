@@ -7,6 +7,7 @@ mod told;
 
 ghost use Rattle.std.specs.Prelude.{◌≡◌, ◌+◌, ◌*◌, ◌-◌, ◌/◌, ◌%◌, ◌≤◌, ◌<◌, ℕ, max, true, [], length, MatchResult};
 ghost use Rattle.std.specs.List.{list_all};
+ghost use Rattle.chars.specs.Put.{part};
 ghost use Rattle.chars.specs.Gather.{Gathered};
 ghost use Rattle.model.specs.Limits.{reply_head, longest_reply};
 ghost use Rattle.model.specs.Frame.{asked};
@@ -61,10 +62,20 @@ impl Parts {
     }
 }
 
+// As many characters of the fixed area as a table area has, from a place on.
+fn area_at<'a>(unit: &'a [u8; UNIT], place: usize) -> &'a [u8; AREA]
+    requires { place ≤ 272 }
+    ensures { result.now ≡ part (unit_in unit.now).fixed place 256 }
+{
+    layout::fixed_of(unit)[place..place + AREA]
+        .try_into()
+        .unwrap()
+}
+
 fn area_of<'a>(unit: &'a [u8; UNIT]) -> &'a [u8; AREA]
     ensures { result.now ≡ table_area (unit_in unit.now).fixed }
 {
-    layout::fixed_of(unit)[16..272].try_into().unwrap()
+    area_at(unit, 16)
 }
 
 // A table with no numbers: absent, or present as what number 0 names. Of constants the compiler would copy the padding too.

@@ -1,4 +1,5 @@
 -- `board::osturdam_stretch` meets its contract. Assumes nothing.
+use Rattle.std.proofs.Common.{rules}
 use Rattle.board.proofs.ToldLaws.{turned_told}
 use Rattle.board.proofs.osturdam_stretch.Goals as goal
 
@@ -8,5 +9,5 @@ returns c =
       turn = c.stretch-turn.result;
       serves = c.stretch-turn.ensures;
       number = c.from.ensures;
-      told = rw c.to_le_bytes.ensures (turned_told c.stretch-turn.result c.action_numbers-action.ensures.0 c.action_numbers-action.ensures.1);
+      told = turned_told c.stretch-turn.result (search rules) (search rules) c.action_numbers-action.ensures.0 c.action_numbers-action.ensures.1;
     }

@@ -1,15 +1,8 @@
 -- `tables::area_of` meets its contract. Assumes nothing.
-use Rattle.std.proofs.Common.{arith}
-use Rattle.std.proofs.lemmas.Grind.{common_steps}
-use Rattle.chars.specs.Put.{part}
+use mathlib.Core.Path.{sym}
 use Rattle.model.specs.Tables.{table_area}
-use Rattle.layout.proofs.UnitLaws.{unit-long}
-use Rattle.tables.proofs.TableLaws.{fixed-long}
 use Rattle.tables.proofs.area_of.Goals as goal
 
-pub slice_bounds-try_into-end : goal.slice_bounds-try_into-end
-slice_bounds-try_into-end c = omega (arith, fixed-long _ _ (unit-long _ c.told-unit) c.fixed_of.ensures)
-
 pub returns : goal.returns
-unfolding part table_area
-returns c = grind (arith, common_steps)
+unfolding table_area
+returns c = c.area_at.ensures

@@ -1,5 +1,5 @@
 -- `layout::equipment::has_calculation` meets its contract. Assumes nothing.
-use Rattle.std.proofs.Common.{ℕ, List, sym, ap, ◌∙◌, lt-ltb, le-ltb}
+use Rattle.std.proofs.Common.{rules, lt-ltb, le-ltb}
 use lib.Dec.{lit<}
 use Rattle.chars.specs.Put.{part}
 use Rattle.model.specs.Config.{has, has_calculation}
@@ -10,10 +10,9 @@ use Rattle.layout.proofs.JudgedLaws.{and_on, and_off}
 use Rattle.layout.proofs.equipment.has_calculation.Goals as goal
 
 pub returns-then-number-lt128 : goal.returns-then-number-lt128
-unfolding has_calculation unit_from config_from unit_sizes start_in part
+unfolding has has_calculation unit_from config_from unit_sizes start_in part
 returns-then-number-lt128 c =
-    and_on (lt-ltb _ _ c.if-number-lt128.true)
-    (c.is_set.ensures ∙ ap (λ (t : List ℕ). has t c.args.number.0) (sym (region_part unit_sizes c.args.unit.now calculations_region (lit< tt))))
+    let r = region_part unit_sizes c.args.unit.now calculations_region (lit< tt) in and_on (lt-ltb _ _ c.if-number-lt128.true) (search (rules, r))
 
 pub returns-else-number-lt128 : goal.returns-else-number-lt128
 unfolding has_calculation

@@ -1,6 +1,5 @@
 -- `layout::equipment::has_output` meets its contract. Assumes nothing.
-use Rattle.std.specs.Prelude.{ℕ, List}
-use mathlib.Core.Path.{sym, ap, ◌∙◌}
+use Rattle.std.proofs.Common.{rules}
 use lib.Dec.{lit<}
 use Rattle.chars.specs.Put.{part}
 use Rattle.model.specs.Config.{has}
@@ -10,5 +9,5 @@ use Rattle.layout.proofs.RegionLaws.{region_part}
 use Rattle.layout.proofs.equipment.has_output.Goals as goal
 
 pub returns : goal.returns
-unfolding unit_from config_from unit_sizes start_in part
-returns c = c.is_set.ensures ∙ ap (λ (t : List ℕ). has t c.args.number.0) (sym (region_part unit_sizes c.args.unit.now outputs_region (lit< tt)))
+unfolding has unit_from config_from unit_sizes start_in part
+returns c = let r = region_part unit_sizes c.args.unit.now outputs_region (lit< tt) in search (rules, r)

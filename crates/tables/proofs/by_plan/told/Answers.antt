@@ -1,5 +1,5 @@
 -- `tables::by_plan::told` meets its contract. Three parts in turn, each in what is left. Assumes nothing.
-use Rattle.std.proofs.Common.{List, ℕ, ap}
+use Rattle.std.proofs.Common.{List, ℕ, ap, arith}
 use Rattle.chars.specs.Gather.{gather}
 use Rattle.chars.proofs.GatherLaws.{gathered_join}
 use Rattle.model.specs.Scan.{tells}
@@ -16,4 +16,4 @@ returns c =
     let two = c.tell-b.ensures in
     let own = c.tell-c.ensures in
     fills_gathered Done (gathered_join one.gathered (gathered_join two.gathered own.gathered))
-    (ap (λ (ns : List ℕ). tells (gather (word_in (unit_in c.args.unit.now).words) ns)) (numbers-told _ _ _ _ one.gathered one.lower_bound.1 two.gathered two.lower_bound.1)) c.done.ensures
+    (ap (λ (ns : List ℕ). tells (gather (word_in (unit_in c.args.unit.now).words) ns)) (numbers-told _ _ _ _ (omega arith) one.gathered one.lower_bound.1 two.gathered two.lower_bound.1)) c.done.ensures
