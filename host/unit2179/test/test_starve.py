@@ -42,15 +42,16 @@ class Peers(LiveTest):
         self.tell('events', *['record 2 1 1 2 3'] * 32)
         until(lambda: len(unit.log('E')) == 32)
         client, done = self.deaf_client(unit.name), threading.Event()
+        client.send(DUMP)
+        # a unit that is held up would take the next request for the end of this one, and refuse both in a few characters
+        until(lambda: unit.log('R'))
 
         def send():
-            chars = DUMP
             while not done.wait(0.02):
                 try:
-                    client.send(chars, socket.MSG_DONTWAIT)
+                    client.send(AGAIN, socket.MSG_DONTWAIT)
                 except OSError:
                     pass
-                chars = AGAIN
 
         sender = threading.Thread(target=send)
         sender.start()

@@ -10,7 +10,7 @@ LINES = '--pty', '--tcp', '--serial'
 EVERYONE = 0x7FF
 SENT = ms_of(bytes([3, 0x66, 0x23, 0x59, 0x58, 3, 0xE7]))  # a millisecond before the year's last second but one ends
 READ_TIME = frame(A, UNIT, 0x28, 0x31)
-SUSPENSION, GAP, APART = 0.4, 0.15, 0.06  # seconds: behind the command, at an idle mark, between slow characters
+SUSPENSION, GAP, APART = 0.4, 0.3, 0.06  # seconds: behind the command, at an idle mark, between slow characters, which may come late
 BOUND = 15  # milliseconds that a host may be late by where it is not kept busy
 TRIES = 4  # of which one must find it so
 
@@ -62,7 +62,7 @@ class Sync(LiveTest):
         self.assertLessEqual(min(errors), BOUND, errors)
         lags = [int(line[1]) for line in unit.log('S')]
         self.assertEqual(len(lags), len(errors))
-        self.assertGreaterEqual(min(lags), 1000 * (10 * APART + GAP) - BOUND, 'so late the clock would be')
+        self.assertGreaterEqual(lags[errors.index(min(errors))], 1000 * (10 * APART + GAP) - BOUND, 'so late the clock would be')
 
     def test_the_clock_is_right_though_the_rest_came_slowly(self):
         for line in LINES:
